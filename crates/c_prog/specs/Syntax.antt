@@ -1,0 +1,95 @@
+-- Typed programs, as the meaning sees them: names are resolved to bases, statements are numbered in source order, each conversion is a
+-- node, and runs of operators are nested to the left.
+use Rattle.std.specs.Prelude.{ℕ, zero, suc, ◌+◌, ◌^◌, ◌<◌, ◌≤◌, ◌≡◌, ◌≢◌, ◌⊎◌, Bool, true, false, List, [], ◌∷◌, length, ℤ, Option, None, Some}
+use Rattle.c_prog.specs.declared.tree.IntKind.{IntKind}
+use Rattle.c_prog.specs.declared.tree.BinOp.{BinOp}
+use Rattle.c_prog.specs.declared.tree.BaseSort.{BaseSort}
+use Rattle.c_prog.specs.declared.tree.BaseSort.TheVariants.{Static, Local, Formal, Text, Func, Context}
+use Rattle.c_prog.specs.declared.number.Span.{Span}
+use Rattle.c_prog.specs.Layouts.{Layout}
+
+mutual
+  -- an lvalue
+  pub data Place : Type 0 where
+    Variable : ℕ → Place
+
+  pub data Expr : Type 0 where
+    Number : IntKind → ℤ → Expr
+    Load : IntKind → Place → Expr
+    Binary : BinOp → IntKind → Expr → Expr → Expr
+    Assign : IntKind → Place → Expr → Expr
+
+mutual
+  -- A statement with its number. A block has its objects; `Nothing` stands where an `if` has no `else`.
+  pub data Stmt : Type 0 where
+    Expression : ℕ → Expr → Stmt
+    Return : ℕ → Expr → Stmt
+    If : ℕ → Expr → Stmt → Stmt → Stmt
+    While : ℕ → Expr → Stmt → Stmt
+    Block : List ℕ → Stmts → Stmt
+    Nothing : Stmt
+
+  pub data Stmts : Type 0 where
+    Done : Stmts
+    Next : Stmt → Stmts → Stmts
+
+-- an object, function or string literal: its name, its size in bytes, what it is, and whether it can't be written
+pub record Base : Type 0 where
+  pub name : List ℕ
+  pub size : ℕ
+  pub sort : BaseSort
+  pub readonly : Bool
+
+-- a function with a body: its base, its formals, the objects and the statements of its body, and the number of its closing brace
+pub record Function : Type 0 where
+  pub base : ℕ
+  pub formals : List ℕ
+  pub locals : List ℕ
+  pub body : Stmts
+  pub end : ℕ
+
+-- The bases by number, the functions with bodies, the function that is entered first, and the places of the statements from number 1.
+pub record Program : Type 0 where
+  pub bases : List Base
+  pub functions : List Function
+  pub entry : ℕ
+  pub spans : List Span
+
+abbrev pub base_at : List Base → ℕ → Option Base
+base_at [] n = None
+base_at (b ∷ bs) zero = Some b
+base_at (b ∷ bs) (suc n) = base_at bs n
+
+-- the first `count` numbers from n
+abbrev pub numbers_from : ℕ → ℕ → List ℕ
+numbers_from n zero = []
+numbers_from n (suc count) = n ∷ numbers_from (suc n) count
+
+-- rows show every base but functions and string literals
+abbrev pub is_shown_sort : BaseSort → Bool
+is_shown_sort Static = true
+is_shown_sort Local = true
+is_shown_sort Formal = true
+is_shown_sort Text = false
+is_shown_sort Func = false
+is_shown_sort Context = true
+
+abbrev pub shown_base : Option Base → Bool
+shown_base None = false
+shown_base (Some b) = is_shown_sort b.sort
+
+abbrev pub is_shown : Program → ℕ → Bool
+is_shown p base = shown_base (base_at p.bases base)
+
+-- the bases b and c share no byte
+abbrev pub AreApart : Layout → ℕ → ℕ → Type 0
+AreApart l b c = (l.address b + l.size b ≤ l.address c) ⊎ (l.address c + l.size c ≤ l.address b)
+
+-- A layout of the program: each base has its size and stands between 1 and 2^47, and no two bases share a byte, whether or not they live
+-- at the same time.
+pub record IsLayout (p : Program) (l : Layout) : Type 0 where
+  pub all : l.bases ≡ numbers_from 0 (length p.bases)
+  pub known : (n : ℕ) (b : Base) → base_at p.bases n ≡ Some b → (l.size n ≡ b.size) × (l.readonly n ≡ b.readonly)
+  pub low : (n : ℕ) → n < length p.bases → 1 ≤ l.address n
+  pub high : (n : ℕ) → n < length p.bases → l.address n + l.size n ≤ 2 ^ 47
+  pub apart : (n k : ℕ) → n < length p.bases → k < length p.bases → n ≢ k → AreApart l n k

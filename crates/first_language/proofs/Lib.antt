@@ -1,0 +1,6 @@
+pub mod Cutting
+pub mod Fronts
+pub mod CutSteps
+pub mod Numbers
+pub mod Declaring
+pub mod Stating
