@@ -1,5 +1,6 @@
 -- The typed program that a `Program` of the code stands for.
-use Rattle.std.specs.Prelude.{ℕ, suc, ◌+◌, Bool, true, false, List, [], ◌∷◌, length, ℤ, pos, map}
+use Rattle.std.specs.List.{AllByRecursion}
+use Rattle.std.specs.Prelude.{ℕ, suc, ◌-◌, ◌^◌, ◌<◌, ◌≤◌, ◌≡◌, true, false, List, [], ◌∷◌, length, pos, map}
 use Rattle.c_prog.specs.declared.tree.IntKind.TheVariants.{Int}
 use Rattle.c_prog.specs.declared.tree.BaseSort.TheVariants.{Local, Func}
 use Rattle.c_prog.specs.declared.tree.Atom.{Atom}
@@ -7,7 +8,7 @@ use Rattle.c_prog.specs.declared.tree.Atom.TheVariants.{Number as AtomNumber, Va
 use Rattle.c_prog.specs.declared.tree.Stmt.{Stmt as CodeStmt}
 use Rattle.c_prog.specs.declared.tree.Stmt.TheVariants.{Assign as CodeAssign, Return as CodeReturn}
 use Rattle.c_prog.specs.declared.tree.Program.{Program as CodeProgram}
-use Rattle.c_prog.specs.Syntax.{Place, Variable, Expr, Number, Load, Assign, Stmt, Expression, Return, Stmts, Done, Next, Base, Function, Program, numbers_from}
+use Rattle.c_prog.specs.Syntax.{Variable, Expr, Number, Load, Assign, Stmt, Expression, Return, Stmts, Done, Next, Base, Function, Program, numbers_from}
 
 abbrev pub expr_of : Atom → Expr
 expr_of (AtomNumber n) = Number Int (pos n)
@@ -48,3 +49,19 @@ meaning_of p = record {
   entry = 0;
   spans = p.spans;
 }
+
+-- what a statement names is there
+abbrev pub IsAtomShaped : ℕ → Atom → Type 0
+IsAtomShaped count (AtomNumber n) = n ≤ 2147483647
+IsAtomShaped count (AtomVariable base) = (1 ≤ base.0) × (base.0 ≤ count)
+
+abbrev pub IsStmtShaped : ℕ → CodeStmt → Type 0
+IsStmtShaped count (CodeAssign target value) = (1 ≤ target.0) × (target.0 ≤ count) × (value ≤ 2147483647)
+IsStmtShaped count (CodeReturn atom) = IsAtomShaped count atom
+
+-- a program names only variables that it has, and each statement and the closing brace have a place
+pub record IsShaped (p : CodeProgram) : Type 0 where
+  pub places : length p.spans ≡ suc (length p.body)
+  pub few : length p.body < 200000
+  pub variables : length p.variables < 2 ^ 32 - 1
+  pub stmts : AllByRecursion (IsStmtShaped (length p.variables)) p.body

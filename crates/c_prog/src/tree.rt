@@ -1,7 +1,6 @@
-use sqlite_items::Items;
-
 use crate::name::Name;
 use crate::number::{BaseId, Span};
+use sqlite_items::Items;
 
 /// C's integer types (C11 6.2.5), `char` among them, which is signed here.
 #[derive(Clone, Copy, Debug, PartialEq, Eq)]

@@ -4,3 +4,4 @@ pub mod CutSteps
 pub mod Numbers
 pub mod Declaring
 pub mod Stating
+pub mod Shaping

@@ -2,7 +2,8 @@
 //! program; both are exact, so that a file is refused only where no program is spelled by its bytes.
 #![tactic(auto)]
 
-ghost use Rattle.std.specs.Prelude.{◌^◌, ◌-◌, ◌<◌, length, IfOk};
+ghost use Rattle.std.specs.Prelude.{◌^◌, ◌-◌, ◌<◌, length, IfOk, IfSome};
+ghost use Rattle.c_prog.specs.Meaning.{IsShaped};
 ghost use Rattle.first_language.specs.Exactness.{Exactly};
 ghost use Rattle.first_language.specs.Language.{IsSource};
 
@@ -17,7 +18,8 @@ pub mod words;
 /// The program that the bytes of a file spell, if they spell one. The time is linear in the file.
 pub fn read(alloc: Global, bytes: &[u8]) -> Result<Option<Program>, AllocError>
     requires { length bytes.now < 2 ^ 32 - 1 }
-    ensures { IfOk result (Exactly (IsSource bytes.now)) }
+    ensures exact { IfOk result (Exactly (IsSource bytes.now)) }
+    ensures shaped { IfOk result (λ found. IfSome found IsShaped) }
 {
     let tokens = lexer::cut(alloc, bytes)?;
     match tokens {

@@ -1,0 +1,3 @@
+mod Counting
+mod Holding
+mod Writing

@@ -1,0 +1,5 @@
+pub mod Texts
+pub mod Placing
+pub mod Describing
+pub mod Soundness
+pub mod Answering

@@ -1,0 +1,5 @@
+pub mod Report
+pub mod Sound
+pub mod Analysis
+pub mod Answers
+pub mod ExitStatus

@@ -1,0 +1,48 @@
+ghost use Rattle.std.specs.Prelude.{◌≡◌};
+ghost use Rattle.eva_top.specs.ExitStatus.{exit_status_of};
+
+use c_prog::number::Span;
+
+/// Why a source is refused.
+#[derive(Clone, Copy, Debug, PartialEq, Eq)]
+pub enum Refusal {
+    /// The file is not in the language that is read so far. The place is a hint and only lies in the file.
+    Form { at: Span },
+}
+
+/// How a call of the command ended.
+#[derive(Clone, Copy, Debug, PartialEq, Eq)]
+pub enum Status {
+    /// A report without alarms was written.
+    Clean,
+    /// A report with alarms was written.
+    Alarmed,
+    /// The words are not taken.
+    Usage,
+    /// The file could not be loaded.
+    Unread,
+    Refused(Refusal),
+    /// The report or the note could not be written whole.
+    Unwritten,
+    Memory,
+    /// The file has more than 16,777,216 bytes.
+    TooLong,
+}
+
+impl Status {
+    /// The exit status of the program.
+    pub fn exit_status(self) -> u8
+        ensures { result ≡ exit_status_of self }
+    {
+        match self {
+            Status::Clean => 0,
+            Status::Alarmed => 1,
+            Status::Usage => 2,
+            Status::Unread => 3,
+            Status::Refused(_) => 4,
+            Status::Unwritten => 6,
+            Status::Memory => 7,
+            Status::TooLong => 8,
+        }
+    }
+}

@@ -1,0 +1,7 @@
+int main(void)
+{
+    int count;
+    int limit;
+    limit = 10;
+    return count;
+}
