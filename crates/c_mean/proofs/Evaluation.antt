@@ -10,6 +10,7 @@ use Rattle.c_prog.specs.Values.{plain}
 use Rattle.c_prog.specs.Layouts.{Layout}
 use Rattle.c_prog.specs.Memories.{Memory, address_of, loaded, stored, with_base, died}
 use Rattle.c_prog.specs.Syntax.{Variable, Number, Load}
+use Rattle.c_prog.proofs.Tests.{other_test}
 use Rattle.c_prog.proofs.IntMemory.{IsInt, int_cells, FitsContent, loaded_content, loaded_int, stored_int}
 use Rattle.c_mean.specs.Machine.{Work, Evaluate, Locate, Fetch, Store, Deliver, Brace, Exit, fallen, goes_holding, Held, Scalar, State, Outcome, Step, arrival, sites_of, statement_in, exit_of, handed}
 use Rattle.c_mean.proofs.Runs.{Good, lead, lead_from, stop, halt}
@@ -34,15 +35,6 @@ set env base n = λ other. cond (other == base) (Some n) (env other)
 -- the layout has all variables, each with the size of int
 pub record HasVariables (l : Layout) (count : ℕ) : Type 0 where
   pub each : (base : ℕ) → IsVariable count base → IsInt l base
-
-same_test : (a : ℕ) → (a == a) ≡ true
-same_test a = grind (arith, nat_tests)
-
-other_test : (a b : ℕ) → a ≢ b → (a == b) ≡ false
-other_test a b h = grind (arith, nat_tests)
-
-test_same : (a b : ℕ) → (a == b) ≡ true → a ≡ b
-test_same a b h = grind (arith, nat_tests)
 
 -- a store to a variable
 pub shows_set : (count : ℕ) (env : Env) (m : Memory) (base : ℕ) (n : ℤ) → IsVariable count base → fits_kind Int n ≡ true → Shows count env m →

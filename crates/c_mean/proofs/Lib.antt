@@ -1,2 +1,4 @@
 pub mod Runs
 pub mod Evaluation
+pub mod Cells
+pub mod Histories

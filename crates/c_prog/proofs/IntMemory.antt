@@ -13,6 +13,7 @@ use Rattle.c_prog.specs.Integers.{bits_from, residue, fits_kind}
 use Rattle.c_prog.specs.Values.{Cell, Uninit, Value, plain, only, cells_of, nowhere, value_in}
 use Rattle.c_prog.specs.Layouts.{Layout}
 use Rattle.c_prog.specs.Memories.{Memory, address_of, is_within, is_reached, reached, loaded, stored, with_base, overwritten}
+use Rattle.c_prog.proofs.Tests.{test_same}
 use Rattle.c_prog.proofs.Bits.{length-bits_from, length-cells_from, int_stored_loaded, uninit_loaded}
 
 -- the cells of a variable of type int: those of a number, or 32 bits that are not written
@@ -40,9 +41,6 @@ pub record IsInt (l : Layout) (base : ℕ) : Type 0 where
 within_self : (l : Layout) (base : ℕ) → l.size base ≡ 4 → is_within l 4 base (pos (l.address base)) ≡ true
 within_self l base size = rw size (grind (arith, nat_tests))
 
-eq_from_test : (a b : ℕ) → (a == b) ≡ true → a ≡ b
-eq_from_test a b h = grind (arith, nat_tests)
-
 abbrev pub loaded_content : Option ℤ → Result Value Kind
 loaded_content None = Err Initialization
 loaded_content (Some n) = Ok (plain n)
@@ -55,7 +53,7 @@ find_self l m base size live (b ∷ bases) among = by_test (find_self l m base s
     by_test : (list_any (λ c. c == base) bases ≡ true → find (is_reached l m 4 (address_of l base)) bases ≡ Some base) → (t : Bool) → (b == base) ≡ t → (t || list_any (λ c. c == base) bases) ≡ true →
         cond (contains (only base) b && (is_some (m b) && is_within l 4 b (pos (l.address base)))) (Some b) (find (is_reached l m 4 (address_of l base)) bases) ≡ Some base
     by_test later true e h =
-        let same : b ≡ base = eq_from_test b base e in
+        let same : b ≡ base = test_same b base e in
         let within = within_self l base size in
         let here : contains (only base) base ≡ true = only_has base base ∙ (rw same at e) in
         rw (same, here, live, within) refl

@@ -3,6 +3,7 @@ use Rattle.std.proofs.Common.{◌≡◌, ◌≢◌, ℕ, zero, suc, ◌+◌, ◌
 use Rattle.std.specs.Prelude.{ℤ, pos, IsSome, nat_le}
 use Rattle.std.specs.List.{AllByRecursion}
 use Rattle.std.proofs.lemmas.Bool.Decides.{nat_tests}
+use Rattle.c_prog.proofs.Tests.{other_test}
 use Rattle.c_prog.specs.Integers.{bits_from, residue}
 use Rattle.c_prog.specs.Values.{Cell, Uninit, nowhere, plain, cells_from, cells_of}
 use Rattle.c_prog.specs.Layouts.{Layout}
@@ -71,12 +72,6 @@ rows_described l m base (c ∷ cs) live =
 base_of_entry : (base : ℕ) (c : Content) → (entry_of base c).base ≡ base
 base_of_entry base None = refl
 base_of_entry base (Some n) = refl
-
-same_test : (a : ℕ) → (a == a) ≡ true
-same_test a = grind (arith, nat_tests)
-
-other_test : (a b : ℕ) → a ≢ b → (a == b) ≡ false
-other_test a b h = grind (arith, nat_tests)
 
 -- the row has no entry of a base before its first one
 no_entry : (other base : ℕ) (cs : List Content) → other < base → entries_of other (row_from base cs) ≡ []

@@ -2,18 +2,13 @@
 use Rattle.std.proofs.Common.{◌≡◌, ◌≢◌, ℕ, zero, suc, ◌+◌, ◌-◌, ◌<◌, ◌≤◌, ◌==◌, Bool, true, false, ◌||◌, List, [], ◌∷◌, length, get_or, map, None, Some, refl, sym, ◌∙◌, ap, arith}
 use Rattle.std.specs.List.{list_any}
 use Rattle.std.proofs.lemmas.Bool.Decides.{nat_tests}
+use Rattle.c_prog.proofs.Tests.{same_test, other_test}
 use Rattle.c_prog.specs.declared.tree.Program.{Program as CodeProgram}
 use Rattle.c_prog.specs.Layouts.{Layout}
 use Rattle.c_prog.specs.Memories.{Memory, born}
 use Rattle.c_prog.specs.Syntax.{base_at, numbers_from, IsLayout}
 use Rattle.c_prog.specs.Meaning.{meaning_of, variable_base}
 use Rattle.c_mean.proofs.Evaluation.{Env, IsVariable, HasVariables, Shows}
-
-same_test : (a : ℕ) → (a == a) ≡ true
-same_test a = grind (arith, nat_tests)
-
-other_test : (a b : ℕ) → a ≢ b → (a == b) ≡ false
-other_test a b h = grind (arith, nat_tests)
 
 or_true : (a b : Bool) → b ≡ true → (a || b) ≡ true
 or_true true b h = refl

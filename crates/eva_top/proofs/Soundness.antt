@@ -4,6 +4,7 @@ use Rattle.std.specs.Prelude.{pos, slice_get, MatchResult}
 use Rattle.std.specs.List.{AllByRecursion}
 use Rattle.std.proofs.lemmas.List.{length-replicate}
 use Rattle.std.proofs.lemmas.Bool.Decides.{nat_tests}
+use Rattle.c_prog.proofs.Tests.{same_test, test_same}
 use Rattle.c_prog.specs.declared.kind.Kind.{Kind}
 use Rattle.c_prog.specs.declared.kind.Kind.TheVariants.{Initialization}
 use Rattle.c_prog.specs.declared.number.Span.{Span}
@@ -39,12 +40,6 @@ shows_same count env other m same s = record {
   beyond = s.beyond;
 }
 
-same_numbers : (a b : ℕ) → (a == b) ≡ true → a ≡ b
-same_numbers a b h = grind (arith, nat_tests)
-
-same_true : (x : ℕ) → (x == x) ≡ true
-same_true x = grind (arith, nat_tests)
-
 -- a store to a variable changes its content alone
 env_of-set : (cs : List Content) (i n : ℕ) → i < length cs → (base : ℕ) → set_env (env_of cs) (suc i) (pos n) base ≡ env_of (set cs i (Some n)) base
 env_of-set cs i n h zero = let out : (0 == suc i) ≡ false = grind (arith, nat_tests) in rw out refl
@@ -53,10 +48,10 @@ env_of-set cs i n h (suc k) = by_test (suc k == suc i) refl
     by_test : (t : Bool) → (suc k == suc i) ≡ t →
         cond (suc k == suc i) (Some (pos n)) (number_of_content (get_or cs k None)) ≡ number_of_content (get_or (set cs i (Some n)) k None)
     by_test true e =
-        let same : k ≡ i = let f = same_numbers (suc k) (suc i) e in omega arith in
+        let same : k ≡ i = let f = test_same (suc k) (suc i) e in omega arith in
         rw (e, same) (sym (ap number_of_content (get_or-set_same cs i (Some n) None h)))
     by_test false e =
-        let apart : k ≢ i = λ f. let g : (suc k == suc i) ≡ true = rw f (same_true (suc i)) in cc in
+        let apart : k ≢ i = λ f. let g : (suc k == suc i) ≡ true = rw f (same_test (suc i)) in cc in
         rw e (sym (ap number_of_content (get_or-set_other cs i k (Some n) None apart)))
 
 shows_stored : (cs : List Content) (base n : ℕ) (m : Memory) → 1 ≤ base → base ≤ length cs → n ≤ 2147483647 → Shows (length cs) (env_of cs) m →

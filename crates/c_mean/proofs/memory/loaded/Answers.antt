@@ -1,0 +1,15 @@
+use Rattle.std.proofs.Common.{◌≡◌, ◌∙◌, sym, subst, ap, Result, IfOk, drop}
+use Rattle.c_prog.specs.declared.kind.Kind.{Kind}
+use Rattle.c_prog.specs.Values.{Value}
+use Rattle.c_mean.specs.Views.{value_of, value_result_of, layout_of, memory_of}
+use Rattle.c_mean.proofs.Histories.{loaded-is}
+use Rattle.c_mean.proofs.memory.loaded.Goals as goal
+
+pub returns-in_ok-cells-in-Some : goal.returns-in_ok-cells-in-Some
+returns-in_ok-cells-in-Some c =
+    let P : Result Value Kind → Type 0 = λ r. IfOk c.value_in.result (λ value. value_result_of value ≡ r) in
+    let l = layout_of c.args.layout.now in
+    let read = loaded-is l (memory_of l c.args.memory.now) c.args.kind (value_of c.args.at.now) c.in-Some.base c.size_of_kind.result c.first_bit.result
+    c.in_ok-cells-in-Some.cells c.back.result.now c.front-read.result.now (sym c.in_ok-reached.ensures ∙ c.in-Some.is) c.in_ok-cells-in-Some.ensures
+    (c.back.ensures ∙ ap (drop c.first_bit.result) c.as_slice.ensures) c.front-read.ensures.value c.first_bit.ensures.value c.size_of_kind.ensures.value in
+    subst P (sym read) c.value_in.ensures

@@ -1,0 +1,11 @@
+use Rattle.std.proofs.Common.{◌≡◌, ◌++◌, ◌-◌, map}
+use Rattle.c_prog.specs.Integers.{bits_from}
+use Rattle.c_prog.specs.Values.{cells_from}
+use Rattle.c_mean.specs.Views.{cell_of, bases_of}
+use Rattle.c_mean.proofs.value.cells_of.Given as goal
+
+-- what is written, and what is still to be written
+abbrev pub invariant-loop-index : goal.invariant-loop-index
+invariant-loop-index l =
+    cells_from (bases_of l.value.bases) 0 (bits_from l.initial.rest l.index-end)
+    ≡ map cell_of l.cells ++ cells_from (bases_of l.value.bases) l.index (bits_from l.rest (l.index-end - l.index))

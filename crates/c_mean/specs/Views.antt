@@ -1,0 +1,160 @@
+-- What the stepper's data stand for.
+use Rattle.std.specs.Prelude.{ℕ, false, List, [], ◌∷◌, ℤ, pos, negsuc, Option, None, Some, Result, Ok, Err, map, length, slice_get, unwrap_or}
+use Rattle.std.specs.FinSet.{from_list}
+use Rattle.c_mean.specs.declared.number.Number.{Number}
+use Rattle.c_mean.specs.declared.number.Number.TheVariants.{Natural, Negative}
+use Rattle.c_mean.specs.declared.number.Wide.{Wide}
+use Rattle.c_mean.specs.declared.number.Wide.TheVariants.{Natural as WideNatural, Negative as WideNegative}
+use Rattle.c_mean.specs.declared.tree.Expr.{Expr as CodeExpr}
+use Rattle.c_mean.specs.declared.tree.Expr.TheVariants.{Number as CodeNumber, Load as CodeLoad, Binary' as CodeBinary, Assign' as CodeAssign}
+use Rattle.c_mean.specs.declared.tree.Stmt.{Stmt as CodeStmt}
+use Rattle.c_mean.specs.declared.tree.Stmt.TheVariants.{Expression as CodeExpression, Return as CodeReturn, If' as CodeIf, While' as CodeWhile, Block' as CodeBlock, Nothing as CodeNothing}
+use Rattle.c_mean.specs.declared.tree.Stmts.{Stmts as CodeStmts}
+use Rattle.c_mean.specs.declared.tree.Stmts.TheVariants.{Done as CodeDone, Next' as CodeNext}
+use Rattle.c_mean.specs.declared.value.Value.{Value as CodeValue}
+use Rattle.c_mean.specs.declared.value.Cell.{Cell as CodeCell}
+use Rattle.c_mean.specs.declared.value.Cell.TheVariants.{Uninit as CodeUninit, Dead as CodeDead, Bit as CodeBit}
+use Rattle.c_mean.specs.declared.value.Held.{Held as CodeHeld}
+use Rattle.c_mean.specs.declared.value.Held.TheVariants.{Scalar as CodeScalar, Unusable as CodeUnusable, Cells as CodeCells, Absent as CodeAbsent}
+use Rattle.c_mean.specs.declared.layout.Object.{Object}
+use Rattle.c_mean.specs.declared.memory.Change.{Change}
+use Rattle.c_mean.specs.declared.memory.Change.TheVariants.{Written, Born, Died}
+use Rattle.c_mean.specs.declared.layout.Layout.{Layout as CodeLayout}
+use Rattle.c_mean.specs.declared.work.Work.{Work as CodeWork}
+use Rattle.c_mean.specs.declared.work.Work.TheVariants.{Do as CodeDo, Evaluate as CodeEvaluate, Locate as CodeLocate, Fetch as CodeFetch, Store as CodeStore, Apply as CodeApply, Discard as CodeDiscard, Choose as CodeChoose, Turn as CodeTurn, Deliver as CodeDeliver, Brace as CodeBrace, Close as CodeClose, Frame as CodeFrame}
+use Rattle.c_mean.specs.declared.work.State.{State as CodeState}
+use Rattle.c_mean.specs.declared.work.Outcome.{Outcome as CodeOutcome}
+use Rattle.c_mean.specs.declared.work.Outcome.TheVariants.{Goes as CodeGoes, Stops as CodeStops}
+use Rattle.c_mean.specs.declared.work.Exit.{Exit as CodeExit}
+use Rattle.c_mean.specs.declared.work.Function.{Function as CodeFunction}
+use Rattle.c_prog.specs.declared.kind.Kind.{Kind}
+use Rattle.c_prog.specs.Layouts.{Layout}
+use Rattle.c_prog.specs.Memories.{Memory, with_base, born, died}
+use Rattle.c_prog.specs.Values.{Value, Provenance, Cell, Uninit, Dead, Bit}
+use Rattle.c_mean.specs.Machine.{Held, Scalar, Unusable, Cells, Absent, Work, Do, Evaluate, Locate, Fetch, Store, Apply, Discard, Choose, Turn, Deliver, Brace, Close, Frame, Exit, State, Outcome, Goes, Stops}
+use Rattle.c_prog.specs.Syntax.{numbers_from, Variable, Expr, Number as NumberExpr, Load, Binary, Assign, Stmt, Expression, Return, If, While, Block, Nothing, Stmts, Done, Next, Function}
+
+abbrev pub number_of : Number → ℤ
+number_of (Natural n) = pos n
+number_of (Negative n) = negsuc n
+
+abbrev pub wide_of : Wide → ℤ
+wide_of (WideNatural n) = pos n
+wide_of (WideNegative n) = negsuc n
+
+-- a number, or why there is none
+abbrev pub number_result_of : Result Number Kind → Result ℤ Kind
+number_result_of (Ok n) = Ok (number_of n)
+number_result_of (Err kind) = Err kind
+
+abbrev pub fitting_of : Option Number → Option ℤ
+fitting_of None = None
+fitting_of (Some n) = Some (number_of n)
+
+abbrev pub expr_of : CodeExpr → Expr
+expr_of (CodeNumber kind n) = NumberExpr kind (number_of n)
+expr_of (CodeLoad kind base) = Load kind (Variable base)
+expr_of (CodeBinary op kind p a q b) = Binary op kind (expr_of a) (expr_of b)
+expr_of (CodeAssign kind base p e) = Assign kind (Variable base) (expr_of e)
+
+abbrev mutual
+  pub stmt_of : CodeStmt → Stmt
+  stmt_of (CodeExpression id e) = Expression id (expr_of e.value)
+  stmt_of (CodeReturn id e) = Return id (expr_of e.value)
+  stmt_of (CodeIf id e p s q t) = If id (expr_of e.value) (stmt_of s) (stmt_of t)
+  stmt_of (CodeWhile id e p s) = While id (expr_of e.value) (stmt_of s)
+  stmt_of (CodeBlock bases p stmts) = Block bases (stmts_of stmts)
+  stmt_of CodeNothing = Nothing
+
+  pub stmts_of : CodeStmts → Stmts
+  stmts_of CodeDone = Done
+  stmts_of (CodeNext p s q more) = Next (stmt_of s) (stmts_of more)
+
+-- a list of bases stands for their set
+abbrev pub bases_of : List ℕ → Provenance
+bases_of bases = from_list bases
+
+abbrev pub value_of : CodeValue → Value
+value_of v = record { number = number_of v.number; provenance = bases_of v.bases }
+
+abbrev pub value_result_of : Result CodeValue Kind → Result Value Kind
+value_result_of (Ok v) = Ok (value_of v)
+value_result_of (Err kind) = Err kind
+
+abbrev pub cell_of : CodeCell → Cell
+cell_of CodeUninit = Uninit
+cell_of CodeDead = Dead
+cell_of (CodeBit bit bases piece) = Bit bit (bases_of bases) piece
+
+abbrev pub held_of : CodeHeld → Held
+held_of (CodeScalar v) = Scalar (value_of v)
+held_of (CodeUnusable kind) = Unusable kind
+held_of (CodeCells cells) = Cells (map cell_of cells)
+held_of CodeAbsent = Absent
+
+abbrev pub cells_option_of : Option (List CodeCell) → Option (List Cell)
+cells_option_of None = None
+cells_option_of (Some cells) = Some (map cell_of cells)
+
+-- a base that isn't listed has no bytes
+abbrev pub object_at : List Object → ℕ → Object
+object_at objects base = unwrap_or (slice_get objects base) (record { address = 0; size = 0; readonly = false })
+
+abbrev pub layout_of : CodeLayout → Layout
+layout_of l = record {
+  address = λ base. (object_at l.objects base).address;
+  size = λ base. (object_at l.objects base).size;
+  readonly = λ base. (object_at l.objects base).readonly;
+  bases = numbers_from 0 (length l.objects);
+}
+
+-- the memory after a history of changes, the last change first
+abbrev pub memory_of : Layout → List Change → Memory
+memory_of l [] = λ base. None
+memory_of l (Written base cells ∷ before) = with_base (memory_of l before) base (Some (map cell_of cells))
+memory_of l (Born bases ∷ before) = born l bases (memory_of l before)
+memory_of l (Died bases ∷ before) = died bases (memory_of l before)
+
+abbrev pub memory_result_of : Layout → Result (List Change) Kind → Result Memory Kind
+memory_result_of l (Ok changes) = Ok (memory_of l changes)
+memory_result_of l (Err kind) = Err kind
+
+abbrev pub work_of : CodeWork → Work
+work_of (CodeDo s) = Do (stmt_of s.value)
+work_of (CodeEvaluate e) = Evaluate (expr_of e.value)
+work_of (CodeLocate base) = Locate (Variable base)
+work_of (CodeFetch kind) = Fetch kind
+work_of (CodeStore kind) = Store kind
+work_of (CodeApply op kind) = Apply op kind
+work_of (CodeDiscard id) = Discard id
+work_of (CodeChoose id s t) = Choose id (stmt_of s.value) (stmt_of t.value)
+work_of (CodeTurn id e s) = Turn id (expr_of e.value) (stmt_of s.value)
+work_of (CodeDeliver id) = Deliver id
+work_of (CodeBrace id) = Brace id
+work_of (CodeClose bases stmts) = Close bases (stmts_of stmts.value)
+work_of (CodeFrame function site) = Frame function site
+
+abbrev pub control_of : List CodeWork → List Work
+control_of control = map work_of control
+
+abbrev pub state_of : Layout → CodeState → State
+state_of l s = record { control = control_of s.control; held = map held_of s.held; memory = memory_of l s.memory }
+
+abbrev pub outcome_of : Layout → CodeOutcome → Outcome
+outcome_of l (CodeGoes s) = Goes (state_of l s)
+outcome_of l (CodeStops kind id sites) = Stops kind id sites
+
+abbrev pub exit_of_code : CodeExit → Exit
+exit_of_code e = record { dying = e.dying; function = e.function; site = e.site; rest = control_of e.rest }
+
+abbrev pub exit_option_of : Option CodeExit → Option Exit
+exit_option_of None = None
+exit_option_of (Some e) = Some (exit_of_code e)
+
+abbrev pub function_of : CodeFunction → Function
+function_of f = record { base = f.base; formals = f.formals; locals = f.locals; body = stmts_of f.body.value; end = f.end }
+
+-- the answer is an outcome, or there is none
+abbrev pub Answers : Layout → (Outcome → Type 0) → Option CodeOutcome → Type 0
+Answers l R None = (out : Outcome) → R out → ⊥
+Answers l R (Some out) = R (outcome_of l out)
