@@ -5,4 +5,5 @@ pub mod Layouts
 pub mod Memories
 pub mod Rows
 pub mod Syntax
+pub mod Source
 pub mod Meaning

@@ -1,27 +1,61 @@
--- The typed program that a `Program` of the code stands for.
-use Rattle.std.specs.List.{AllByRecursion}
-use Rattle.std.specs.Prelude.{ℕ, suc, ◌-◌, ◌^◌, ◌<◌, ◌≤◌, ◌≡◌, true, false, List, [], ◌∷◌, length, pos, map}
+-- The typed program that a `Program` of the source stands for.
+use Rattle.std.specs.Prelude.{ℕ, suc, ◌+◌, Bool, true, false, List, [], ◌∷◌, length, pos, map}
+use Rattle.c_prog.specs.declared.tree.BinOp.{BinOp}
+use Rattle.c_prog.specs.declared.tree.BinOp.TheVariants.{Add, Sub, Lt, Le, Gt, Ge, Eq, Ne}
 use Rattle.c_prog.specs.declared.tree.IntKind.TheVariants.{Int}
 use Rattle.c_prog.specs.declared.tree.BaseSort.TheVariants.{Local, Func}
 use Rattle.c_prog.specs.declared.tree.Atom.{Atom}
 use Rattle.c_prog.specs.declared.tree.Atom.TheVariants.{Number as AtomNumber, Variable as AtomVariable}
-use Rattle.c_prog.specs.declared.tree.Stmt.{Stmt as CodeStmt}
-use Rattle.c_prog.specs.declared.tree.Stmt.TheVariants.{Assign as CodeAssign, Return as CodeReturn}
-use Rattle.c_prog.specs.declared.tree.Program.{Program as CodeProgram}
-use Rattle.c_prog.specs.Syntax.{Variable, Expr, Number, Load, Assign, Stmt, Expression, Return, Stmts, Done, Next, Base, Function, Program, numbers_from}
+use Rattle.c_prog.specs.declared.tree.Sign.{Sign}
+use Rattle.c_prog.specs.declared.tree.Sign.TheVariants.{Plus, Minus}
+use Rattle.c_prog.specs.declared.tree.Rel.{Rel}
+use Rattle.c_prog.specs.declared.tree.Rel.TheVariants.{Lt as RelLt, Le as RelLe, Gt as RelGt, Ge as RelGe, Eq as RelEq, Ne as RelNe}
+use Rattle.c_prog.specs.declared.tree.Addend.{Addend}
+use Rattle.c_prog.specs.declared.tree.Sum.{Sum}
+use Rattle.c_prog.specs.declared.tree.Test.{Test}
+use Rattle.c_prog.specs.Source.{Stmt as SourceStmt, Assign as SourceAssign, Return as SourceReturn, If as SourceIf, While as SourceWhile, Block as SourceBlock, Nothing as SourceNothing, Stmts as SourceStmts, Done as SourceDone, Next as SourceNext, Program as SourceProgram, count, count_all}
+use Rattle.c_prog.specs.Syntax.{Variable, Expr, Number, Load, Binary, Assign, Stmt, Expression, Return, If, While, Block, Nothing, Stmts, Done, Next, Base, Function, Program, numbers_from}
 
-abbrev pub expr_of : Atom → Expr
-expr_of (AtomNumber n) = Number Int (pos n)
-expr_of (AtomVariable base) = Load Int (Variable base.0)
+abbrev pub atom_expr : Atom → Expr
+atom_expr (AtomNumber n) = Number Int (pos n)
+atom_expr (AtomVariable base) = Load Int (Variable base.0)
 
-abbrev pub stmt_of : ℕ → CodeStmt → Stmt
-stmt_of id (CodeAssign target value) = Expression id (Assign Int (Variable target.0) (Number Int (pos value)))
-stmt_of id (CodeReturn atom) = Return id (expr_of atom)
+abbrev pub sign_op : Sign → BinOp
+sign_op Plus = Add
+sign_op Minus = Sub
 
--- the statements, numbered from `id`
-abbrev pub stmts_of : ℕ → List CodeStmt → Stmts
-stmts_of id [] = Done
-stmts_of id (s ∷ more) = Next (stmt_of id s) (stmts_of (suc id) more)
+-- a run of additions and subtractions groups from the left (C11 6.5.6)
+abbrev pub run_expr : Expr → List Addend → Expr
+run_expr left [] = left
+run_expr left (a ∷ more) = run_expr (Binary (sign_op a.sign) Int left (atom_expr a.atom)) more
+
+abbrev pub sum_expr : Sum → Expr
+sum_expr s = run_expr (atom_expr s.first) s.more
+
+abbrev pub relation_op : Rel → BinOp
+relation_op RelLt = Lt
+relation_op RelLe = Le
+relation_op RelGt = Gt
+relation_op RelGe = Ge
+relation_op RelEq = Eq
+relation_op RelNe = Ne
+
+abbrev pub test_expr : Test → Expr
+test_expr t = Binary (relation_op t.relation) Int (sum_expr t.left) (sum_expr t.right)
+
+-- statements, numbered from `id`
+abbrev mutual
+  pub stmt_of : ℕ → SourceStmt → Stmt
+  stmt_of id (SourceAssign target value) = Expression id (Assign Int (Variable target.0) (sum_expr value))
+  stmt_of id (SourceReturn value) = Return id (sum_expr value)
+  stmt_of id (SourceIf test s t) = If id (test_expr test) (stmt_of (suc id) s) (stmt_of (suc id + count s) t)
+  stmt_of id (SourceWhile test s) = While id (test_expr test) (stmt_of (suc id) s)
+  stmt_of id (SourceBlock stmts) = Block [] (stmts_of id stmts)
+  stmt_of id SourceNothing = Nothing
+
+  pub stmts_of : ℕ → SourceStmts → Stmts
+  stmts_of id SourceDone = Done
+  stmts_of id (SourceNext s more) = Next (stmt_of id s) (stmts_of (id + count s) more)
 
 abbrev pub variable_base : List ℕ → Base
 variable_base name = record { name = name; size = 4; sort = Local; readonly = false }
@@ -33,35 +67,19 @@ main_name = 109 ∷ 97 ∷ 105 ∷ 110 ∷ []
 abbrev pub bases_of : List (List ℕ) → List Base
 bases_of variables = record { name = main_name; size = 1; sort = Func; readonly = true } ∷ map variable_base variables
 
-abbrev pub main_of : CodeProgram → Function
+abbrev pub main_of : SourceProgram → Function
 main_of p = record {
   base = 0;
   formals = [];
   locals = numbers_from 1 (length p.variables);
   body = stmts_of 1 p.body;
-  end = suc (length p.body);
+  end = suc (count_all p.body);
 }
 
-abbrev pub meaning_of : CodeProgram → Program
+abbrev pub meaning_of : SourceProgram → Program
 meaning_of p = record {
   bases = bases_of p.variables;
   functions = main_of p ∷ [];
   entry = 0;
   spans = p.spans;
 }
-
--- what a statement names is there
-abbrev pub IsAtomShaped : ℕ → Atom → Type 0
-IsAtomShaped count (AtomNumber n) = n ≤ 2147483647
-IsAtomShaped count (AtomVariable base) = (1 ≤ base.0) × (base.0 ≤ count)
-
-abbrev pub IsStmtShaped : ℕ → CodeStmt → Type 0
-IsStmtShaped count (CodeAssign target value) = (1 ≤ target.0) × (target.0 ≤ count) × (value ≤ 2147483647)
-IsStmtShaped count (CodeReturn atom) = IsAtomShaped count atom
-
--- a program names only variables that it has, and each statement and the closing brace have a place
-pub record IsShaped (p : CodeProgram) : Type 0 where
-  pub places : length p.spans ≡ suc (length p.body)
-  pub few : length p.body < 200000
-  pub variables : length p.variables < 2 ^ 32 - 1
-  pub stmts : AllByRecursion (IsStmtShaped (length p.variables)) p.body

@@ -5,4 +5,5 @@
 pub mod kind;
 pub mod name;
 pub mod number;
+pub mod token;
 pub mod tree;

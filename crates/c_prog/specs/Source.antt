@@ -1,0 +1,40 @@
+-- Programs of the language that is read so far, as plain trees.
+use Rattle.std.specs.Prelude.{ℕ, suc, ◌+◌, List}
+use Rattle.c_prog.specs.declared.number.BaseId.{BaseId}
+use Rattle.c_prog.specs.declared.number.Span.{Span}
+use Rattle.c_prog.specs.declared.tree.Sum.{Sum}
+use Rattle.c_prog.specs.declared.tree.Test.{Test}
+
+mutual
+  -- A statement. A ladder of `if`s is nested in the places of the `else`s; `Nothing` stands where an `if` has no `else`.
+  pub data Stmt : Type 0 where
+    Assign : BaseId → Sum → Stmt
+    Return : Sum → Stmt
+    If : Test → Stmt → Stmt → Stmt
+    While : Test → Stmt → Stmt
+    Block : Stmts → Stmt
+    Nothing : Stmt
+
+  pub data Stmts : Type 0 where
+    Done : Stmts
+    Next : Stmt → Stmts → Stmts
+
+-- the names of the variables, the statements of `main`, and the places of the numbered statements and of the closing brace
+pub record Program : Type 0 where
+  pub variables : List (List ℕ)
+  pub body : Stmts
+  pub spans : List Span
+
+-- how many numbered statements a statement has: all but blocks
+abbrev mutual
+  pub count : Stmt → ℕ
+  count (Assign target value) = 1
+  count (Return value) = 1
+  count (If test s t) = suc (count s + count t)
+  count (While test s) = suc (count s)
+  count (Block stmts) = count_all stmts
+  count Nothing = 0
+
+  pub count_all : Stmts → ℕ
+  count_all Done = 0
+  count_all (Next s more) = count s + count_all more
