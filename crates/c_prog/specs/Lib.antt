@@ -6,4 +6,5 @@ pub mod Memories
 pub mod Rows
 pub mod Syntax
 pub mod Source
+pub mod SourceViews
 pub mod Meaning
