@@ -1,0 +1,293 @@
+//! What sums and tests give.
+ghost use Rattle.std.specs.Prelude.{◌≡◌, ℤ, ◌≤ℤ◌, ◌+ℤ◌, ◌-ℤ◌, IsTrue, Bool, not, int_lt, ◌≢◌, Option, Result, IfOk};
+ghost use Rattle.c_prog.specs.declared.kind.Kind.{Kind};
+ghost use Rattle.c_prog.specs.declared.tree.IntKind.TheVariants.{Int};
+ghost use Rattle.c_prog.specs.Operators.{arithmetic, computed};
+ghost use Rattle.c_prog.specs.Meaning.{atom_expr, sign_op, run_expr, sum_expr, relation_op, test_expr};
+ghost use Rattle.c_prog.specs.Syntax.{Expr};
+ghost use Rattle.c_mean.specs.Evaluation.{Env, value, combined, content_value, is_true};
+ghost use Rattle.first_analysis.specs.Contents.{IsWithin, Holds, HoldsNumber, HoldsRow};
+ghost use Rattle.first_analysis.specs.Values.{Gives, GivesTruth, has_kind, is_possible};
+
+use crate::content::{Content, INT, Range};
+use c_prog::number::BaseId;
+use c_prog::tree::{Addend, Atom, Rel, Sign, Sum, Test};
+
+/// Why an expression of `int` variables, numbers, sums and comparisons may be undefined.
+#[derive(Clone, Copy, Debug, PartialEq, Eq)]
+pub struct Kinds {
+    pub overflow: bool,
+    pub initialization: bool,
+}
+
+/// The numbers that an expression may give, if any, and the kinds with which its evaluation may stop.
+#[derive(Clone, Copy, Debug, PartialEq, Eq)]
+pub struct Evaluated {
+    pub range: Option<Range>,
+    pub kinds: Kinds,
+}
+
+/// Which truths a comparison may have.
+#[derive(Clone, Copy, Debug, PartialEq, Eq)]
+pub struct Truths {
+    pub may_be_true: bool,
+    pub may_be_false: bool,
+}
+
+/// Which truths a test may have, and the kinds with which its evaluation may stop.
+#[derive(Clone, Copy, Debug, PartialEq, Eq)]
+pub struct Tested {
+    pub truths: Truths,
+    pub kinds: Kinds,
+}
+
+impl Kinds {
+    pub fn none() -> Kinds {
+        Kinds {
+            overflow: false,
+            initialization: false,
+        }
+    }
+
+    fn with(self, other: Kinds) -> Kinds
+        ensures first { (kind : Kind) → IsTrue (has_kind self kind) → IsTrue (has_kind result kind) }
+        ensures second { (kind : Kind) → IsTrue (has_kind other kind) → IsTrue (has_kind result kind) }
+    {
+        Kinds {
+            overflow: self.overflow || other.overflow,
+            initialization: self.initialization || other.initialization,
+        }
+    }
+}
+
+// What the use of a variable gives.
+fn used(content: Content) -> Evaluated
+    ensures { (x : Option ℤ) → Holds content x → Gives result (content_value x) }
+{
+    Evaluated {
+        range: content.range,
+        kinds: Kinds {
+            overflow: false,
+            initialization: content.uninit,
+        },
+    }
+}
+
+// The content of a variable. A row has all variables of its program.
+fn content_of(row: &[Content], base: BaseId) -> Content
+    ensures { (env : Env) → HoldsRow row.now env → Holds result (env base.0) }
+{
+    if base.0 == 0 {
+        return Content::anything();
+    }
+    match row.get(base.0 as usize - 1) {
+        None => Content::anything(),
+        Some(content) => *content,
+    }
+}
+
+fn atom(row: &[Content], atom: Atom) -> Evaluated
+    ensures { (env : Env) → HoldsRow row.now env → Gives result (value env (atom_expr atom)) }
+{
+    match atom {
+        Atom::Number(n) => Evaluated {
+            range: Some(Range {
+                low: n as i64,
+                high: n as i64,
+            }),
+            kinds: Kinds::none(),
+        },
+        Atom::Variable(base) => used(content_of(row, base)),
+    }
+}
+
+// Bounds before they are cut to a type.
+#[derive(Clone, Copy)]
+struct Bounds {
+    low: i128,
+    high: i128,
+}
+
+fn added(a: Range, b: Range) -> Bounds
+    ensures { (m n : ℤ) → IsWithin a m → IsWithin b n → (result.low ≤ℤ (m +ℤ n)) × ((m +ℤ n) ≤ℤ result.high) }
+{
+    Bounds {
+        low: a.low as i128 + b.low as i128,
+        high: a.high as i128 + b.high as i128,
+    }
+}
+
+fn subtracted(a: Range, b: Range) -> Bounds
+    ensures { (m n : ℤ) → IsWithin a m → IsWithin b n → (result.low ≤ℤ (m -ℤ n)) × ((m -ℤ n) ≤ℤ result.high) }
+{
+    Bounds {
+        low: a.low as i128 - b.high as i128,
+        high: a.high as i128 - b.low as i128,
+    }
+}
+
+// The bounds as far as they lie in type int, if they do.
+fn cut(bounds: Bounds) -> Option<Range>
+    ensures { (n : ℤ) → bounds.low ≤ℤ n → n ≤ℤ bounds.high → IsWithin INT n → HoldsNumber result n }
+{
+    let low = if bounds.low < INT.low as i128 {
+        INT.low
+    } else {
+        if bounds.low > INT.high as i128 {
+            return None;
+        }
+        bounds.low as i64
+    };
+    let high = if bounds.high > INT.high as i128 {
+        INT.high
+    } else {
+        if bounds.high < INT.low as i128 {
+            return None;
+        }
+        bounds.high as i64
+    };
+    Some(Range { low, high })
+}
+
+// What an operation gives whose results have these bounds: those beyond type int are undefined (C11 6.5p5).
+fn within_int(bounds: Bounds, kinds: Kinds) -> Evaluated
+    ensures gives { (n : ℤ) → bounds.low ≤ℤ n → n ≤ℤ bounds.high → Gives result (arithmetic Int n) }
+    ensures kinds { (kind : Kind) → IsTrue (has_kind kinds kind) → IsTrue (has_kind result.kinds kind) }
+{
+    let leaves = bounds.low < INT.low as i128 || bounds.high > INT.high as i128;
+    Evaluated {
+        range: cut(bounds),
+        kinds: Kinds {
+            overflow: kinds.overflow || leaves,
+            initialization: kinds.initialization,
+        },
+    }
+}
+
+fn plus(left: Evaluated, sign: Sign, right: Evaluated) -> Evaluated
+    ensures { (x y : Result ℤ Kind) → Gives left x → Gives right y → Gives result (combined (sign_op sign) Int x y) }
+{
+    let kinds = left.kinds.with(right.kinds);
+    match left.range {
+        None => Evaluated { range: None, kinds },
+        Some(a) => match right.range {
+            None => Evaluated { range: None, kinds },
+            Some(b) => match sign {
+                Sign::Plus => within_int(added(a, b), kinds),
+                Sign::Minus => within_int(subtracted(a, b), kinds),
+            },
+        },
+    }
+}
+
+// What a run of additions and subtractions gives behind what stands before it.
+fn run(row: &[Content], start: Evaluated, more: &[Addend]) -> Evaluated
+    ensures { (env : Env) (left : Expr) → HoldsRow row.now env → Gives start (value env left) → Gives result (value env (run_expr left more.now)) }
+{
+    let mut result = start;
+    for addend in more {
+        result = plus(result, addend.sign, atom(row, addend.atom));
+    }
+    result
+}
+
+/// What a sum gives.
+pub fn sum(row: &[Content], sum: &Sum) -> Evaluated
+    ensures { (env : Env) → HoldsRow row.now env → Gives result (value env (sum_expr sum.now)) }
+{
+    run(row, atom(row, sum.first), sum.more.as_slice())
+}
+
+fn may_be_equal(a: Range, b: Range) -> bool
+    ensures { (n : ℤ) → IsWithin a n → IsWithin b n → IsTrue result }
+{
+    a.low <= b.high && b.low <= a.high
+}
+
+fn may_differ(a: Range, b: Range) -> bool
+    ensures { (m n : ℤ) → IsWithin a m → IsWithin b n → m ≢ n → IsTrue result }
+{
+    a.low < b.high || b.low < a.high
+}
+
+// Which truths an equation may have between numbers of two ranges.
+fn equated(a: Range, b: Range) -> Truths
+    ensures equal { (n : ℤ) → IsWithin a n → IsWithin b n → IsTrue result.may_be_true }
+    ensures apart { (m n : ℤ) → IsWithin a m → IsWithin b n → m ≢ n → IsTrue result.may_be_false }
+{
+    Truths {
+        may_be_true: may_be_equal(a, b),
+        may_be_false: may_differ(a, b),
+    }
+}
+
+impl Truths {
+    fn negated(self) -> Truths
+        ensures { (truth : Bool) → is_possible result truth ≡ is_possible self (not truth) }
+    {
+        Truths {
+            may_be_true: self.may_be_false,
+            may_be_false: self.may_be_true,
+        }
+    }
+}
+
+fn ordered(a: Range, b: Range) -> Truths
+    ensures { (m n : ℤ) → IsWithin a m → IsWithin b n → IsTrue (is_possible result (int_lt m n)) }
+{
+    Truths {
+        may_be_true: a.low < b.high,
+        may_be_false: b.low <= a.high,
+    }
+}
+
+// Which truths a relation may have between numbers of two ranges.
+fn compared(a: Range, relation: Rel, b: Range) -> Truths
+    ensures { (m n : ℤ) → IsWithin a m → IsWithin b n → IfOk (computed (relation_op relation) Int m n) (λ t. IsTrue (is_possible result (is_true t))) }
+{
+    match relation {
+        Rel::Lt => ordered(a, b),
+        Rel::Le => ordered(b, a).negated(),
+        Rel::Gt => ordered(b, a),
+        Rel::Ge => ordered(a, b).negated(),
+        Rel::Eq => equated(a, b),
+        Rel::Ne => equated(a, b).negated(),
+    }
+}
+
+fn related(left: Evaluated, relation: Rel, right: Evaluated) -> Tested
+    ensures { (x y : Result ℤ Kind) → Gives left x → Gives right y → GivesTruth result (combined (relation_op relation) Int x y) }
+{
+    let kinds = left.kinds.with(right.kinds);
+    let none = Truths {
+        may_be_true: false,
+        may_be_false: false,
+    };
+    match left.range {
+        None => Tested {
+            truths: none,
+            kinds,
+        },
+        Some(a) => match right.range {
+            None => Tested {
+                truths: none,
+                kinds,
+            },
+            Some(b) => Tested {
+                truths: compared(a, relation, b),
+                kinds,
+            },
+        },
+    }
+}
+
+/// Which truths a test may have.
+pub fn test(row: &[Content], test: &Test) -> Tested
+    ensures { (env : Env) → HoldsRow row.now env → GivesTruth result (value env (test_expr test.now)) }
+{
+    related(
+        sum(row, &test.left),
+        test.relation,
+        sum(row, &test.right),
+    )
+}
