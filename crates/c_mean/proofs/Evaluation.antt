@@ -1,36 +1,30 @@
 -- The machine on programs whose objects are variables of type int, without the cells: what a variable holds is a number, or nothing yet.
-use Rattle.std.proofs.Common.{◌≡◌, ◌≢◌, ℕ, zero, suc, ◌<◌, ◌≤◌, ◌==◌, Bool, true, false, cond, List, [], ◌∷◌, Option, None, Some, Ok, Err, refl, ◌∙◌, ap, arith}
+use Rattle.std.proofs.Common.{◌≡◌, ℕ, zero, suc, ◌<◌, ◌==◌, Bool, true, false, cond, List, [], ◌∷◌, Option, None, Some, Result, Ok, Err, refl, ◌∙◌, ap, arith}
 use Rattle.std.specs.Prelude.{ℤ, MatchResult}
-use Rattle.std.proofs.lemmas.Bool.Decides.{nat_tests}
+use Rattle.std.specs.Ordering.{nat_cmp}
+use Rattle.std.specs.Cmp.{nat_cmp_total}
+use Rattle.std.specs.FinSet.{union, same_set, contains-union, contains-empty, nat_cmp-IsAntisymmetric}
 use Rattle.c_prog.specs.declared.tree.IntKind.TheVariants.{Int}
 use Rattle.c_prog.specs.declared.kind.Kind.{Kind}
 use Rattle.c_prog.specs.declared.kind.Kind.TheVariants.{Initialization}
 use Rattle.c_prog.specs.Integers.{fits_kind}
-use Rattle.c_prog.specs.Values.{plain}
+use Rattle.c_prog.specs.Values.{nowhere, plain}
 use Rattle.c_prog.specs.Layouts.{Layout}
 use Rattle.c_prog.specs.Memories.{Memory, address_of, loaded, stored, with_base, died}
-use Rattle.c_prog.specs.Syntax.{Variable, Number, Load}
+use Rattle.c_prog.specs.declared.tree.BinOp.{BinOp}
+use Rattle.c_prog.specs.Operators.{computed}
+use Rattle.c_prog.specs.Syntax.{Variable, Expr, Number, Load, Binary, Assign}
 use Rattle.c_prog.proofs.Tests.{other_test}
 use Rattle.c_prog.proofs.IntMemory.{IsInt, int_cells, FitsContent, loaded_content, loaded_int, stored_int}
-use Rattle.c_mean.specs.Machine.{Work, Evaluate, Locate, Fetch, Store, Deliver, Brace, Exit, fallen, goes_holding, Held, Scalar, State, Outcome, Step, arrival, sites_of, statement_in, exit_of, handed}
+use Rattle.c_mean.specs.Evaluation.{Env, set, IsVariable, IsPlain, value, combined, content_value}
+use Rattle.c_mean.specs.Machine.{Work, Evaluate, Locate, Fetch, Store, Apply, provenance_after, is_comparison, Deliver, Brace, Exit, fallen, goes_holding, Held, Scalar, State, Outcome, Step, arrival, sites_of, statement_in, exit_of, handed}
 use Rattle.c_mean.proofs.Runs.{Good, lead, lead_from, stop, halt}
-
--- what each variable holds; variables are the bases from 1 to `count`
-abbrev pub Env : Type 0
-Env = ℕ → Option ℤ
-
-pub record IsVariable (count base : ℕ) : Type 0 where
-  pub low : 1 ≤ base
-  pub high : base ≤ count
 
 pub record Shows (count : ℕ) (env : Env) (m : Memory) : Type 0 where
   pub live : (base : ℕ) → IsVariable count base → m base ≡ Some (int_cells (env base))
   pub fits : (base : ℕ) → FitsContent (env base)
   pub none : m 0 ≡ None
   pub beyond : (base : ℕ) → count < base → m base ≡ None
-
-abbrev pub set : Env → ℕ → ℤ → Env
-set env base n = λ other. cond (other == base) (Some n) (env other)
 
 -- the layout has all variables, each with the size of int
 pub record HasVariables (l : Layout) (count : ℕ) : Type 0 where
@@ -54,6 +48,15 @@ shows_set count env m base n v fits s = record {
     fits_by_test : (other : ℕ) (t : Bool) → FitsContent (cond t (Some n) (env other))
     fits_by_test other true = fits
     fits_by_test other false = s.fits other
+
+-- operators on numbers that were made from no address give such numbers
+no_provenance : (op : BinOp) → provenance_after op nowhere nowhere ≡ nowhere
+no_provenance op = by_test (is_comparison op)
+  where
+    by_test : (b : Bool) → cond b nowhere (union nowhere nowhere) ≡ nowhere
+    by_test true = refl
+    by_test false = same_set nat_cmp_total nat_cmp-IsAntisymmetric (union nowhere nowhere) nowhere
+        (λ q. rw (contains-union nat_cmp_total nowhere nowhere q, contains-empty nat_cmp q) refl)
 
 module _ (l : Layout) (Covered : ℕ → List ℕ → Memory → Type 0) (Alarmed : Kind → ℕ → List ℕ → Type 0) (count : ℕ) (has : HasVariables l count) where
   abbrev at : List Work → List Held → Memory → State
@@ -117,3 +120,41 @@ module _ (l : Layout) (Covered : ℕ → List ℕ → Memory → Type 0) (Alarme
   brace_reached id rest held m e (suc n) out last covered =
       lead_from l Covered Alarmed (at (Brace id ∷ rest) held m) (at e.rest (handed e.dying (fallen (Some e)) ∷ held) (died e.dying m)) id refl covered
       (λ o step. rw out at step) n (rw last (halt l Covered Alarmed (handed e.dying (fallen (Some e)) ∷ held) (died e.dying m) n))
+
+  -- an expression without effects is evaluated: its number is held, or its evaluation stops with an alarm
+  pub evaluated : (env : Env) (e : Expr) (rest : List Work) (held : List Held) (m : Memory) (n : ℕ) → IsPlain count e → Shows count env m →
+      MatchResult (value env e) (λ v. Fine n (at rest (Scalar (plain v) ∷ held) m)) (λ kind. Alarmed kind (statement_in rest) (sites_of rest)) →
+      Fine n (at (Evaluate e ∷ rest) held m)
+  evaluated env (Number kind v) rest held m n is s after = rw is (number_held v rest held m n after)
+  evaluated env (Load kind (Variable base)) rest held m n is s after =
+      rw is.0 (variable_held env base rest held m n is.1 s (by_content (env base) after))
+    where
+      by_content : (content : Option ℤ) → MatchResult (content_value content) (λ v. Fine n (at rest (Scalar (plain v) ∷ held) m)) (λ kind. Alarmed kind (statement_in rest) (sites_of rest)) →
+          MatchResult (loaded_content content) (λ v. Fine n (at rest (Scalar v ∷ held) m)) (λ kind. Alarmed kind (statement_in rest) (sites_of rest))
+      by_content None h = h
+      by_content (Some v) h = h
+  evaluated env (Binary op kind a b) rest held m n is s after =
+      lead l Covered Alarmed (at (Evaluate (Binary op kind a b) ∷ rest) held m) (at (Evaluate a ∷ Evaluate b ∷ Apply op kind ∷ rest) held m) refl (λ out step. step) n
+      (evaluated env a (Evaluate b ∷ Apply op kind ∷ rest) held m n is.1 s (left (value env a) (value env b) after (λ h. evaluated env b (Apply op kind ∷ rest) h m n is.2 s)))
+    where
+      applied : (x y : ℤ) (r : Result ℤ Kind) → computed op kind x y ≡ r → MatchResult r (λ v. Fine n (at rest (Scalar (plain v) ∷ held) m)) (λ k. Alarmed k (statement_in rest) (sites_of rest)) →
+          Fine n (at (Apply op kind ∷ rest) (Scalar (plain y) ∷ Scalar (plain x) ∷ held) m)
+      applied x y (Ok v) e h =
+          lead l Covered Alarmed (at (Apply op kind ∷ rest) (Scalar (plain y) ∷ Scalar (plain x) ∷ held) m) (at rest (Scalar (plain v) ∷ held) m) refl
+          (λ out step. rw (e, no_provenance op) at step) n h
+      applied x y (Err k) e h =
+          stop l Covered Alarmed (at (Apply op kind ∷ rest) (Scalar (plain y) ∷ Scalar (plain x) ∷ held) m) k (statement_in rest) (sites_of rest) refl h
+          (λ out step. rw e at step) n
+
+      right : (x : ℤ) (y : Result ℤ Kind) → MatchResult (combined op kind (Ok x) y) (λ v. Fine n (at rest (Scalar (plain v) ∷ held) m)) (λ k. Alarmed k (statement_in rest) (sites_of rest)) →
+          MatchResult y (λ w. Fine n (at (Apply op kind ∷ rest) (Scalar (plain w) ∷ Scalar (plain x) ∷ held) m)) (λ k. Alarmed k (statement_in rest) (sites_of rest))
+      right x (Ok y) h = applied x y (computed op kind x y) refl h
+      right x (Err k) h = h
+
+      left : (x y : Result ℤ Kind) → MatchResult (combined op kind x y) (λ v. Fine n (at rest (Scalar (plain v) ∷ held) m)) (λ k. Alarmed k (statement_in rest) (sites_of rest)) →
+          ((h : List Held) → MatchResult y (λ v. Fine n (at (Apply op kind ∷ rest) (Scalar (plain v) ∷ h) m)) (λ k. Alarmed k (statement_in rest) (sites_of rest)) →
+          Fine n (at (Evaluate b ∷ Apply op kind ∷ rest) h m)) →
+          MatchResult x (λ v. Fine n (at (Evaluate b ∷ Apply op kind ∷ rest) (Scalar (plain v) ∷ held) m)) (λ k. Alarmed k (statement_in rest) (sites_of rest))
+      left (Ok x) y h next = next (Scalar (plain x) ∷ held) (right x y h)
+      left (Err k) y h next = h
+  evaluated env (Assign kind p e) rest held m n is s after = absurd is

@@ -1,5 +1,5 @@
 -- What holds behind a test.
-use Rattle.std.proofs.Common.{◌≡◌, true, false, IsTrue, ℤ, Option, Some, Result, Ok, Err}
+use Rattle.std.proofs.Common.{◌≡◌, true, false, ℤ, Some, Result, Ok, Err}
 use Rattle.std.specs.Prelude.{MatchResult}
 use Rattle.c_prog.specs.declared.kind.Kind.{Kind}
 use Rattle.c_prog.specs.Syntax.{Expr}

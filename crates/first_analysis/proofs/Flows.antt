@@ -1,5 +1,5 @@
 -- How flows through parts make a flow through the whole.
-use Rattle.std.proofs.Common.{◌≡◌, ℕ, suc, ◌+◌, ◌≤◌, true, false, IsTrue, List, [], ◌∷◌, ◌++◌, length, take, drop, map, ℤ, Result, Ok, Err, refl, sym, ap, ◌∙◌, arith}
+use Rattle.std.proofs.Common.{◌≡◌, ℕ, suc, true, false, List, [], ◌∷◌, ◌++◌, length, drop, ℤ, Result, Ok, Err, arith}
 use Rattle.std.specs.Prelude.{MatchResult}
 use Rattle.std.proofs.Math.Seq.{take-append_seam, drop-append_seam}
 use Rattle.c_prog.specs.declared.kind.Kind.{Kind}
@@ -11,7 +11,7 @@ use Rattle.c_prog.specs.Source.{Stmt, Assign, Return, If, While, Block, Nothing,
 use Rattle.c_prog.specs.Meaning.{sum_expr, test_expr}
 use Rattle.c_mean.specs.Evaluation.{Env, set, value, is_true}
 use Rattle.first_analysis.specs.Contents.{HoldsReached}
-use Rattle.first_analysis.specs.Flow.{Spot, Below, IsAlarmed, IsAssigned, IsBranch, Flow, FlowAll}
+use Rattle.first_analysis.specs.Flow.{Spot, Below, IsAssigned, IsBranch, Flow, FlowAll}
 use Rattle.first_analysis.specs.Tables.{Reached, PlaceSpot, ArmFlow}
 
 lift : (x : Result ℤ Kind) (P Q : ℤ → Type 0) → ((n : ℤ) → P n → Q n) → MatchResult x P (λ kind. Unit {0}) → MatchResult x Q (λ kind. Unit {0})

@@ -1,6 +1,8 @@
 pub mod Truths
 pub mod Sums
 pub mod Trees
+pub mod Running
+pub mod Soundness
 pub mod Steps
 pub mod Flows
 pub mod Counts

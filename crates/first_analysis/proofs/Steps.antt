@@ -15,9 +15,8 @@ use Rattle.c_prog.specs.SourceViews.{tree_of, trees_of}
 use Rattle.first_analysis.specs.declared.place.Place.{Place}
 use Rattle.first_analysis.specs.Contents.{HoldsReached}
 use Rattle.first_analysis.specs.Flow.{Flow, FlowAll}
-use Rattle.first_analysis.specs.Tables.{Reached, PlaceSpot, Rises, spot_of, arm_of, choice, Flows, ArmFlows, LadderFlows}
+use Rattle.first_analysis.specs.Tables.{Reached, PlaceSpot, Rises, spot_of, choice, Flows, ArmFlows, LadderFlows}
 use Rattle.first_analysis.proofs.Trees.{arm_is, tree-If, tree-If-else}
-use Rattle.first_analysis.proofs.Counts.{choice_step, stmts_step}
 use Rattle.first_analysis.proofs.Flows.{list_next, arm_next, below_self}
 
 -- the places in front, once the next ones are written

@@ -1,8 +1,8 @@
 -- The trees of the code's statements, one level at a time.
-use Rattle.std.proofs.Common.{◌≡◌, ℕ, List, Option, None, Some, map, refl, sym, ap, ◌∙◌}
+use Rattle.std.proofs.Common.{◌≡◌, List, Option, None, Some, sym, ap, ◌∙◌}
 use Rattle.c_prog.specs.declared.tree.Test.{Test}
 use Rattle.c_prog.specs.declared.tree.Arm.{Arm as CodeArm}
-use Rattle.c_prog.specs.declared.tree.Stmt.{Stmt as CodeStmt, fold-Stmt, roll-Stmt, Stmt-F}
+use Rattle.c_prog.specs.declared.tree.Stmt.{Stmt as CodeStmt, Stmt-F}
 use Rattle.c_prog.specs.declared.tree.Stmt.TheVariants as V
 use Rattle.c_prog.specs.declared.tree.Stmt.TheFolds as F
 use Rattle.c_prog.specs.Source.{Stmt, While, Block, Nothing}

@@ -1,6 +1,6 @@
 -- Which truths the relations between two numbers have.
-use Rattle.std.proofs.Common.{◌≡◌, ◌≢◌, ℤ, Bool, true, false, IsTrue, ◌&&◌, refl, ap, arith}
-use Rattle.std.specs.Prelude.{not, int_le, int_lt, ◌≤ℤ◌, ◌<ℤ◌}
+use Rattle.std.proofs.Common.{◌≡◌, ◌≢◌, ℤ, Bool, true, false, IsTrue, ◌&&◌, refl, arith}
+use Rattle.std.specs.Prelude.{not, int_le, int_lt}
 use Rattle.std.proofs.lemmas.Int.{ints}
 use Rattle.c_prog.specs.Operators.{truth_number}
 use Rattle.c_mean.specs.Evaluation.{is_true}

@@ -1,12 +1,12 @@
 -- The spots of the code's places.
-use Rattle.std.specs.Prelude.{ℕ, ◌≡◌, Bool, true, false, cond, IsTrue, ℤ, Option, Result, Ok, Err, None, Some, List, [], ◌∷◌, ◌++◌, map}
+use Rattle.std.specs.Prelude.{ℕ, ◌≡◌, true, false, cond, IsTrue, ℤ, Option, Result, Ok, Err, None, Some, List, [], ◌∷◌, ◌++◌, length, map}
 use Rattle.c_prog.specs.declared.kind.Kind.{Kind}
 use Rattle.c_prog.specs.Syntax.{Expr}
 use Rattle.c_prog.specs.declared.tree.Test.{Test}
 use Rattle.c_prog.specs.declared.tree.Arm.{Arm as CodeArm}
 use Rattle.c_prog.specs.declared.tree.Stmt.{Stmt as CodeStmt}
 use Rattle.c_prog.specs.declared.tree.Stmt.TheFolds.{fold-Arm}
-use Rattle.c_prog.specs.Source.{Stmt, Nothing, Stmts}
+use Rattle.c_prog.specs.Source.{Stmt, Nothing, Stmts, Program, count_all}
 use Rattle.c_prog.specs.SourceViews.{tree_of, ladder, stmt_step, arm_step}
 use Rattle.c_prog.specs.Meaning.{test_expr}
 use Rattle.c_mean.specs.Evaluation.{Env, is_true}
@@ -77,3 +77,19 @@ abbrev pub LadderFlows : List CodeArm → List Place → Reached → Reached →
 LadderFlows arms places before state out =
     (last : Stmt) (rest : List PlaceSpot) (right after : Reached) → Flow Reached HoldsReached last rest state right → Rises out after → Rises right after →
     Flow Reached HoldsReached (choice arms last) (map spot_of places ++ rest) before after
+
+-- the places of statements and of the closing brace behind them, through which the start flows
+pub record IsTable (stmts : Stmts) (start : Reached) (places : List Place) : Type 0 where
+  pub inner : List Place
+  pub last : Place
+  pub after : Reached
+  pub whole : places ≡ inner ++ last ∷ []
+  pub many : length inner ≡ count_all stmts
+  pub flows : FlowsAll stmts inner start after
+  pub ends : Rises after last.row
+
+-- the places of a program, from the memory in which nothing is written yet
+pub record IsAnalysis (p : Program) (places : List Place) : Type 0 where
+  pub start : Reached
+  pub begins : HoldsReached start (λ base. None)
+  pub table : IsTable p.body start places

@@ -1,5 +1,5 @@
 -- What the results of sums and tests may be.
-use Rattle.std.specs.Prelude.{ℕ, Bool, cond, true, false, IsTrue, ℤ, Result, Ok, Err}
+use Rattle.std.specs.Prelude.{Bool, true, false, IsTrue, ℤ, Result, Ok, Err}
 use Rattle.c_prog.specs.declared.kind.Kind.{Kind}
 use Rattle.c_prog.specs.declared.kind.Kind.TheVariants.{SignedOverflow, Initialization}
 use Rattle.c_mean.specs.Evaluation.{is_true}

@@ -285,9 +285,5 @@ fn related(left: Evaluated, relation: Rel, right: Evaluated) -> Tested
 pub fn test(row: &[Content], test: &Test) -> Tested
     ensures { (env : Env) → HoldsRow row.now env → GivesTruth result (value env (test_expr test.now)) }
 {
-    related(
-        sum(row, &test.left),
-        test.relation,
-        sum(row, &test.right),
-    )
+    related(sum(row, &test.left), test.relation, sum(row, &test.right))
 }

@@ -1,8 +1,9 @@
 //! The numbers to which unstable bounds go.
-ghost use Rattle.std.specs.Prelude.{◌≤ℤ◌, ◌≤◌, length};
+ghost use Rattle.std.specs.Prelude.{◌≤ℤ◌, ◌≤◌, pos, length};
 
-
-
+use crate::content::INT;
+use c_prog::tree::{Arm, Atom, Stmt, Sum, Test};
+use std::alloc::{AllocError, Global};
 
 // How many of the marks, which ascend, are below n.
 fn marks_below(marks: &[i64], n: i64) -> usize
@@ -46,4 +47,84 @@ pub fn last_at_most(marks: &[i64], n: i64) -> i64
     } else {
         i64::MIN
     }
+}
+
+fn add_number(marks: &mut Vec<i64>, n: i64) -> Result<(), AllocError>
+    requires low { pos 0 ≤ℤ n }
+    requires high { n ≤ℤ pos 4294967295 }
+{
+    marks.push(n - 1)?;
+    marks.push(n)?;
+    marks.push(n + 1)?;
+    Ok(())
+}
+
+fn add_atom(marks: &mut Vec<i64>, atom: Atom) -> Result<(), AllocError> {
+    match atom {
+        Atom::Number(n) => add_number(marks, n as i64),
+        Atom::Variable(_) => Ok(()),
+    }
+}
+
+fn add_sum(marks: &mut Vec<i64>, sum: &Sum) -> Result<(), AllocError> {
+    add_atom(marks, sum.first)?;
+    for addend in sum.more.as_slice() {
+        add_atom(marks, addend.atom)?;
+    }
+    Ok(())
+}
+
+fn add_test(marks: &mut Vec<i64>, test: &Test) -> Result<(), AllocError> {
+    add_sum(marks, &test.left)?;
+    add_sum(marks, &test.right)
+}
+
+#[cycle(marking)]
+fn add_arms(marks: &mut Vec<i64>, arms: &[Arm]) -> Result<(), AllocError> {
+    for arm in arms {
+        add_test(marks, &arm.test)?;
+        add_stmt(marks, &arm.body)?;
+    }
+    Ok(())
+}
+
+#[cycle(marking)]
+fn add_stmts(marks: &mut Vec<i64>, stmts: &[Stmt]) -> Result<(), AllocError> {
+    for stmt in stmts {
+        add_stmt(marks, stmt)?;
+    }
+    Ok(())
+}
+
+#[cycle(marking)]
+fn add_stmt(marks: &mut Vec<i64>, stmt: &Stmt) -> Result<(), AllocError> {
+    match stmt {
+        Stmt::Assign { target: _, value } => add_sum(marks, value),
+        Stmt::Return(value) => add_sum(marks, value),
+        Stmt::If { arms, otherwise } => {
+            add_arms(marks, arms.as_slice())?;
+            match otherwise {
+                None => Ok(()),
+                Some(last) => add_stmt(marks, last.get()),
+            }
+        }
+        Stmt::While { test, body } => {
+            add_test(marks, test)?;
+            add_stmt(marks, body.get())
+        }
+        Stmt::Block(stmts) => add_stmts(marks, stmts.as_slice()),
+    }
+}
+
+/// The marks of a program, ascending: its numbers, each also minus 1 and plus 1, 0, and the ends of type `int`.
+///
+/// That they are these, and that they ascend, bears on how tight rows are, and on nothing else.
+pub fn marks_of(alloc: Global, stmts: &[Stmt]) -> Result<Vec<i64>, AllocError> {
+    let mut marks = Vec::new(alloc);
+    marks.push(INT.low)?;
+    marks.push(0)?;
+    marks.push(INT.high)?;
+    add_stmts(&mut marks, stmts)?;
+    marks.sort_unstable();
+    Ok(marks)
 }

@@ -51,6 +51,17 @@ pub fn merge(
     Ok(merged)
 }
 
+/// The row of so many variables of which none is written yet.
+pub fn unwritten(alloc: Global, count: usize) -> Result<Items<Content>, AllocError>
+    ensures { IfOk result (λ row. HoldsRow row (λ base. None)) }
+{
+    let mut row = Items::new(alloc);
+    for _ in 0..count {
+        row.push(Content::nothing())?;
+    }
+    Ok(row)
+}
+
 /// The row of so many variables that has every memory.
 pub fn everything(alloc: Global, count: usize) -> Result<Items<Content>, AllocError>
     ensures { IfOk result (λ row. (other : List Content) (env : Env) → HoldsRow other env → HoldsRow row env) }

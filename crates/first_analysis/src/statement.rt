@@ -22,8 +22,9 @@ fn count_arms(arms: &[Arm]) -> usize
     total
 }
 
+/// How many numbered statements these have.
 #[cycle(counting)]
-fn count_list(stmts: &[Stmt]) -> usize
+pub fn count_list(stmts: &[Stmt]) -> usize
     ensures { count_all (trees_of stmts.now) < 2 ^ 62 → result ≡ count_all (trees_of stmts.now) }
 {
     let mut total: usize = 0;
@@ -87,8 +88,9 @@ fn giving(
     Ok(None)
 }
 
+/// Carries a row through statements, with the places of their numbered statements in order: the row behind them.
 #[cycle(flowing)]
-fn statements(
+pub fn statements(
     alloc: Global,
     stmts: &[Stmt],
     places: &mut [Place],

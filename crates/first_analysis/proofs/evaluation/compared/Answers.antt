@@ -1,5 +1,4 @@
-use Rattle.std.proofs.Common.{refl}
-use Rattle.first_analysis.proofs.Truths.{lt_possible, le_possible, eq_possible, ne_possible}
+use Rattle.first_analysis.proofs.Truths.{le_possible, eq_possible, ne_possible}
 use Rattle.first_analysis.proofs.evaluation.compared.Goals as goal
 
 pub returns-in-Le : goal.returns-in-Le

@@ -1,4 +1,4 @@
-use Rattle.std.proofs.Common.{◌≡◌, ℕ, ◌<◌, ◌≤◌, length, get_or, ℤ, Option}
+use Rattle.std.proofs.Common.{ℕ, ◌<◌, length, get_or, ℤ, Option}
 use Rattle.first_analysis.specs.declared.content.Content.{Content}
 use Rattle.first_analysis.specs.Contents.{Holds, FitsInt}
 use Rattle.first_analysis.proofs.row.everything.Given as goal

@@ -8,5 +8,5 @@ invariant-loop-index l = record {
   long : length l.merged ≡ l.index;
   within : l.index ≤ length l.row;
   first : (k : ℕ) (d : Content) → k < l.index → Includes (get_or l.merged k d) (get_or l.kept k d);
-  second : (k : ℕ) (d : Content) → k < l.index → Includes (get_or l.merged k d) (get_or l.row k d)
+  second : (k : ℕ) (d : Content) → k < l.index → Includes (get_or l.merged k d) (get_or l.row k d);
 }

@@ -1,5 +1,5 @@
 use Rattle.std.proofs.Common.{arith}
-use Rattle.first_analysis.proofs.Rows.{assigned, untouched}
+use Rattle.first_analysis.proofs.Rows.{assigned}
 use Rattle.first_analysis.proofs.row.put.Goals as goal
 
 pub returns : goal.returns

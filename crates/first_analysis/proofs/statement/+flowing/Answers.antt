@@ -1,4 +1,4 @@
-use Rattle.std.proofs.Common.{arith, rules, refl, ap, sym, ◌∙◌, ◌≡◌, ◌<◌, ◌+◌, ◌-◌, [], ◌++◌, map, take, drop, length, append-nil, take_all, drop_of_length-le}
+use Rattle.std.proofs.Common.{arith, rules, refl, ◌∙◌, ◌≡◌, ◌<◌, ◌+◌, ◌-◌, [], ◌++◌, map, take, drop, length, append-nil, take_all, drop_of_length-le}
 use Rattle.std.proofs.lemmas.List.{length-map}
 use Rattle.c_prog.specs.declared.tree.Stmt.{the_lemmas}
 use Rattle.c_prog.specs.Source.{Nothing, count}
