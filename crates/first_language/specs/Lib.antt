@@ -1,3 +1,4 @@
 pub mod Exactness
 pub mod Language
 pub mod Reading
+pub mod Views

@@ -199,6 +199,12 @@ return_at variables budget spans tokens = do
 abbrev pub Rule : Type 0
 Rule = List Span → List Token → Option (Read Stmt)
 
+-- the statement behind the last `else` of a ladder
+unfoldable pub last_at : Rule → List (Test × Stmt) → Rule
+last_at inner arms spans tokens = do
+  last ← inner spans tokens
+  Some (record { item = ladder arms last.item; spans = last.spans; rest = last.rest })
+
 module _ (variables : List (List ℕ)) (budget : ℕ) (inner : Rule) where
   -- a test in parentheses and a statement
   unfoldable pub arm_at : List Span → List Token → Option (Read (Test × Stmt))
@@ -218,9 +224,7 @@ module _ (variables : List (List ℕ)) (budget : ℕ) (inner : Rule) where
   arms_with again arms (Some arm) = again (arms ++ arm.item ∷ []) arm.spans arm.rest
 
   abbrev pub arms_else : (List (Test × Stmt) → Rule) → List (Test × Stmt) → List Span → List Token → Option (List Token) → Option (Read Stmt)
-  arms_else again arms spans tokens None = do
-    last ← inner spans tokens
-    Some (record { item = ladder arms last.item; spans = last.spans; rest = last.rest })
+  arms_else again arms spans tokens None = last_at inner arms spans tokens
   arms_else again arms spans tokens (Some rest) = arms_with again arms (arm_at (spans ++ here tokens) rest)
 
   abbrev pub arms_behind : (List (Test × Stmt) → Rule) → List (Test × Stmt) → List Span → List Token → Option (List Token) → Option (Read Stmt)

@@ -2,5 +2,6 @@
 //! exact: tokens are refused only where they spell no program.
 #![tactic(auto)]
 
+pub mod statements;
 pub mod sums;
 pub mod words;
