@@ -1,5 +1,5 @@
 -- The language as a function: what is found at the front of a list of tokens, and what is left.
-use Rattle.std.specs.Prelude.{ℕ, zero, suc, ◌+◌, nat_le, max, Bool, true, false, not, cond, ◌&&◌, List, [], ◌∷◌, ◌++◌, length, Option, None, Some, option_map, position, bytes_eq, codes}
+use Rattle.std.specs.Prelude.{ℕ, zero, suc, ◌+◌, nat_le, nat_lt, Bool, true, false, not, cond, ◌&&◌, List, [], ◌∷◌, ◌++◌, length, Option, None, Some, option_map, position, bytes_eq, codes}
 use Rattle.std.specs.List.{list_any}
 use denote.Enum.Bare.{sameb}
 use Rattle.c_prog.specs.contracts.token.Keyword.{the_type as key_type}
@@ -292,11 +292,15 @@ stmt_at variables (suc budget) spans tokens = rule_at variables budget (stmt_at 
 
 -- ---- files
 
+unfoldable pub behind_main : List Token → Option (List Token)
+behind_main tokens = do
+  name ← name_at tokens
+  cond (bytes_eq name.0 (codes "main")) (Some name.1) None
+
 unfoldable pub header_at : List Token → Option (List Token)
 header_at tokens = do
   a ← behind_key key.Int tokens
-  name ← name_at a
-  b ← cond (bytes_eq name.0 (codes "main")) (Some name.1) None
+  b ← behind_main a
   c ← behind_mark mark.OpenParenthesis b
   d ← behind_key key.Void c
   e ← behind_mark mark.CloseParenthesis d
@@ -329,16 +333,16 @@ abbrev pub is_end : List Token → Bool
 is_end [] = true
 is_end (t ∷ tokens) = false
 
--- statements to the end of the file
-unfoldable pub main_at : List (List ℕ) → List Token → Option Program
-main_at variables tokens = do
-  body ← body_at variables 198 (stmt_at variables 198) (suc (length tokens)) [] [] tokens
+-- statements to the end of the file, and the places of all that are numbered
+unfoldable pub main_at : List (List ℕ) → ℕ → List Token → Option (Stmts × List Span)
+main_at variables budget tokens = do
+  body ← body_at variables budget (stmt_at variables budget) (suc (length tokens)) [] [] tokens
   rest ← behind_mark mark.CloseBrace body.rest
-  cond (is_end rest && nat_le (suc (length body.spans)) 200000)
-      (Some (record { variables = variables; body = listed body.item; spans = body.spans ++ here body.rest })) None
+  cond (is_end rest) (cond (nat_lt (length body.spans) 200000) (Some (listed body.item, body.spans ++ here body.rest)) None) None
 
 unfoldable pub program_at : List Token → Option Program
 program_at tokens = do
   inner ← header_at tokens
   declared ← declarations_at (suc (length inner)) [] inner
-  main_at declared.0 declared.1
+  main ← main_at declared.0 198 declared.1
+  Some (record { variables = declared.0; body = main.0; spans = main.1 })

@@ -2,6 +2,7 @@
 //! exact: tokens are refused only where they spell no program.
 #![tactic(auto)]
 
+pub mod parser;
 pub mod statements;
 pub mod sums;
 pub mod words;
