@@ -1,2 +1,4 @@
 pub mod Steps
 pub mod Declaring
+pub mod Fronts
+pub mod Additions
