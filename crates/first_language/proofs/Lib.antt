@@ -2,3 +2,4 @@ pub mod Steps
 pub mod Declaring
 pub mod Fronts
 pub mod Additions
+pub mod Reaching
