@@ -3,3 +3,4 @@ pub mod Declaring
 pub mod Fronts
 pub mod Additions
 pub mod Reaching
+pub mod Sounding

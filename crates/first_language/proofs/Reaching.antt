@@ -105,23 +105,22 @@ branch_closed : (V : List (List ℕ)) (s t : Stmt) (more : List Piece) → IsNea
 branch_closed V s Nothing more near closed o = closed refl
 branch_closed V s _ more near closed o = absurd (cc)
 
-ladder_more : (arms : List (Test × Stmt)) (test : Test) (s t : Stmt) → ladder (arms ++ (test, s) ∷ []) t ≡ ladder arms (If test s t)
+pub ladder_more : (arms : List (Test × Stmt)) (test : Test) (s t : Stmt) → ladder (arms ++ (test, s) ∷ []) t ≡ ladder arms (If test s t)
 ladder_more [] test s t = refl
 ladder_more (a ∷ arms) test s t = ap (If a.0 a.1) (ladder_more arms test s t)
 
-pub plain_list : Stmts → List Stmt
+abbrev pub plain_list : Stmts → List Stmt
 plain_list Done = []
 plain_list (Next s stmts) = s ∷ plain_list stmts
 
 pub listed_plain : (stmts : Stmts) → listed (plain_list stmts) ≡ stmts
-unfolding plain_list
 listed_plain Done = refl
 listed_plain (Next s stmts) = ap (Next s) (listed_plain stmts)
 
-left_small : (a b d : ℕ) → max a b ≤ d → a ≤ d
+pub left_small : (a b d : ℕ) → max a b ≤ d → a ≤ d
 left_small a b d h = omega arith
 
-right_small : (a b d : ℕ) → max a b ≤ d → b ≤ d
+pub right_small : (a b d : ℕ) → max a b ≤ d → b ≤ d
 right_small a b d h = omega arith
 
 module _ (V : List (List ℕ)) (d : ℕ) (inner : Rule)
@@ -264,7 +263,6 @@ module _ (V : List (List ℕ)) (d : ℕ) (inner : Rule)
       ((ts : List Token) (places : List Span) → Fits V close ts places → (rest : List Token) × (behind_mark mark.CloseBrace ts ≡ Some rest)) →
       Fits V (spell_all stmts close) tokens spans →
       Reached (List Stmt) V (found ++ plain_list stmts) close (suc (length tokens)) acc spans (body_at V d inner n found acc tokens)
-  unfolding plain_list
   body_here stmts zero found close tokens acc spans enough ok nests closed ends h = absurd (omega arith)
   body_here Done (suc n) found close tokens acc spans enough ok nests closed ends h =
       let e = ends tokens spans h in
