@@ -1,5 +1,5 @@
 -- Sums and tests: what a spelling of one gives, and that what is found is spelled.
-use Rattle.std.proofs.Common.{◌≡◌, ℕ, zero, suc, ◌+◌, ◌<◌, ◌≤◌, Bool, true, false, cond, List, [], ◌∷◌, ◌++◌, length, Option, None, Some, refl, sym, ◌∙◌, ap, arith, append_assoc, append-nil}
+use Rattle.std.proofs.Common.{◌≡◌, ℕ, zero, suc, ◌+◌, ◌<◌, ◌≤◌, true, cond, List, [], ◌∷◌, ◌++◌, length, Option, None, Some, refl, sym, ◌∙◌, ap, arith, append_assoc, append-nil}
 use Rattle.std.specs.Prelude.{nat_le}
 use Rattle.std.specs.List.{AllByRecursion}
 use Rattle.std.proofs.lemmas.Option.{cond_some}
@@ -14,9 +14,9 @@ use Rattle.c_prog.specs.declared.tree.Test.{Test}
 use Rattle.c_prog.specs.declared.token.Punctuator.TheVariants as mark
 use Rattle.c_prog.specs.declared.token.Token.{Token}
 use Rattle.c_prog.specs.SourceViews.{IsAtomShaped, IsSumShaped, IsTestShaped}
-use Rattle.first_language.specs.Language.{Piece, Mark, Fits, mark_of_sign, mark_of_relation, spell_atom, spell_addends, spell_sum, spell_test, nest_sum, nest_test}
-use Rattle.first_language.specs.Reading.{◌>>=◌, Addends, addends_with, addends_behind, addends, atom_at, sign_at, relation_at, sum_at, test_at, condition_at, value_at, behind_mark}
-use Rattle.first_language.proofs.Fronts.{After, AfterItem, Spelled, sign_none, sign_here, atom_here, relation_here, mark_here, relation_unsigned, sign_found, atom_found, relation_found, mark_found, atom_shaped}
+use Rattle.first_language.specs.Language.{Piece, Mark, Fits, mark_of_relation, spell_atom, spell_addends, spell_sum, spell_test, nest_sum, nest_test}
+use Rattle.first_language.specs.Reading.{◌>>=◌, addends_with, addends_behind, addends, atom_at, sign_at, relation_at, sum_at, test_at, condition_at, value_at, behind_mark}
+use Rattle.first_language.proofs.Fronts.{AfterItem, Spelled, sign_none, sign_here, atom_here, relation_here, mark_here, relation_unsigned, sign_found, atom_found, relation_found, mark_found, atom_shaped}
 
 -- ---- a spelling gives its tree
 

@@ -4,3 +4,4 @@ pub mod Fronts
 pub mod Additions
 pub mod Reaching
 pub mod Sounding
+pub mod Deciding

@@ -1,5 +1,5 @@
 -- Where tokens spell a statement, the plain function finds just this one.
-use Rattle.std.proofs.Common.{◌≡◌, ℕ, zero, suc, ◌+◌, ◌<◌, ◌≤◌, max, Bool, true, false, IsTrue, List, [], ◌∷◌, ◌++◌, length, Option, None, Some, refl, sym, ◌∙◌, ap, arith, append_assoc, append-nil}
+use Rattle.std.proofs.Common.{◌≡◌, ℕ, zero, suc, ◌<◌, ◌≤◌, max, true, false, List, [], ◌∷◌, ◌++◌, length, Option, None, Some, refl, ◌∙◌, ap, arith, append_assoc, append-nil}
 use Rattle.c_prog.specs.declared.number.BaseId.{BaseId}
 use Rattle.c_prog.specs.declared.number.Span.{Span}
 use Rattle.c_prog.specs.declared.tree.Sum.{Sum}
@@ -9,9 +9,9 @@ use Rattle.c_prog.specs.declared.token.Punctuator.TheVariants as mark
 use Rattle.c_prog.specs.declared.token.Token.{Token}
 use Rattle.c_prog.specs.Source.{Stmt, Assign, Return, If, While, Block, Nothing, Stmts, Done, Next}
 use Rattle.c_prog.specs.SourceViews.{listed, ladder}
-use Rattle.first_language.specs.Language.{Piece, Key, Mark, Mention, Here, IsPlaced, Fits, spell_sum, spell_test, spell_else, spell, spell_all, is_open, IsNearest, IsStatement, AreStatements, nest_test, nest_sum, nest, nest_all}
+use Rattle.first_language.specs.Language.{Piece, Key, Mark, Mention, Here, Fits, spell_sum, spell_test, spell_else, spell, spell_all, is_open, IsNearest, IsStatement, AreStatements, nest_test, nest, nest_all}
 use Rattle.first_language.specs.Reading.{behind_key, behind_mark, target_at, condition_at, value_at, here, Read, Rule, assignment_at, return_at, last_at, arm_at, while_at, arms_at, if_at, body_at, block_at, rule_at, stmt_at}
-use Rattle.first_language.proofs.Fronts.{After, AfterItem, IsWord, key_piece, mark_piece, key_here, key_none, mark_here, mark_none, target_here, here_placed}
+use Rattle.first_language.proofs.Fronts.{IsWord, key_piece, mark_piece, key_here, key_none, mark_here, mark_none, target_here, here_placed}
 use Rattle.first_language.proofs.Additions.{condition_here, value_here}
 
 -- what is found is just this; some of the spans are added, and the others are of the further pieces

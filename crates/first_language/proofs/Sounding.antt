@@ -1,5 +1,5 @@
 -- What the plain function finds is spelled by the tokens, and is well-formed.
-use Rattle.std.proofs.Common.{◌≡◌, ℕ, zero, suc, ◌+◌, ◌<◌, ◌≤◌, max, Bool, true, false, IsTrue, List, [], ◌∷◌, ◌++◌, length, Option, None, Some, refl, sym, ◌∙◌, ap, arith, append_assoc, append-nil, length-append}
+use Rattle.std.proofs.Common.{◌≡◌, ℕ, zero, suc, ◌≤◌, Bool, true, false, List, [], ◌∷◌, ◌++◌, length, Option, None, Some, refl, sym, ◌∙◌, ap, arith, append_assoc, append-nil, length-append}
 use Rattle.c_prog.specs.declared.number.BaseId.{BaseId}
 use Rattle.c_prog.specs.declared.number.Span.{Span}
 use Rattle.c_prog.specs.declared.tree.Sum.{Sum}
@@ -9,8 +9,8 @@ use Rattle.c_prog.specs.declared.token.Punctuator.TheVariants as mark
 use Rattle.c_prog.specs.declared.token.Token.{Token}
 use Rattle.c_prog.specs.Source.{Stmt, Assign, Return, If, While, Block, Nothing, Stmts, Done, Next, count, count_all}
 use Rattle.c_prog.specs.SourceViews.{listed, ladder, IsTestShaped, IsStmtShaped, AreStmtsShaped}
-use Rattle.first_language.specs.Language.{Piece, Key, Mark, Mention, Here, Fits, spell_sum, spell_test, spell_else, spell, spell_all, is_open, IsNearest, IsStatement, AreStatements, nest_test, nest_sum, nest, nest_all}
-use Rattle.first_language.specs.Reading.{◌>>=◌, behind_key, behind_mark, target_at, condition_at, value_at, here, Read, Rule, assignment_at, return_at, last_at, arm_at, while_at, arms_with, arms_else, arms_behind, arms_at, if_at, body_with, body_before, body_at, block_at, rule_if, rule_while, rule_return, rule_block, rule_at, stmt_at}
+use Rattle.first_language.specs.Language.{Piece, Key, Mark, Mention, Here, Fits, spell_sum, spell_test, spell_else, spell, spell_all, is_open, IsNearest, IsStatement, AreStatements, nest_test, nest, nest_all}
+use Rattle.first_language.specs.Reading.{behind_key, behind_mark, target_at, condition_at, value_at, here, Read, Rule, assignment_at, return_at, last_at, arm_at, while_at, arms_with, arms_else, arms_behind, arms_at, if_at, body_with, body_before, body_at, block_at, rule_if, rule_while, rule_return, rule_block, rule_at, stmt_at}
 use Rattle.first_language.proofs.Fronts.{IsWord, front, key_found, mark_found, target_found, target_shaped}
 use Rattle.first_language.proofs.Additions.{bound, condition_found, value_found}
 use Rattle.first_language.proofs.Reaching.{ladder_more, plain_list, listed_plain}
@@ -75,6 +75,11 @@ one_here : (k : _) (tokens rest : List Token) → behind_key k tokens ≡ Some r
 unfolding behind_key
 one_here k [] rest e = absurd (cc)
 one_here k (t ∷ tokens) rest e = refl
+
+pub one_mark : (k : _) (tokens rest : List Token) → behind_mark k tokens ≡ Some rest → length (here tokens) ≡ 1
+unfolding behind_mark
+one_mark k [] rest e = absurd (cc)
+one_mark k (t ∷ tokens) rest e = refl
 
 one_target : (V : List (List ℕ)) (base : BaseId) (tokens rest : List Token) → target_at V tokens ≡ Some (base, rest) → length (here tokens) ≡ 1
 unfolding target_at

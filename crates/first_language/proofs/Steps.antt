@@ -1,9 +1,8 @@
 -- One round of each loop over statements.
-use Rattle.std.proofs.Common.{◌≡◌, ℕ, zero, suc, ◌+◌, ◌-◌, ◌<◌, ◌≤◌, List, [], ◌∷◌, ◌++◌, length, map, Option, None, Some, refl, sym, ◌∙◌, ap, arith}
+use Rattle.std.proofs.Common.{◌≡◌, ℕ, zero, suc, ◌-◌, ◌<◌, ◌≤◌, List, [], ◌∷◌, ◌++◌, length, map, Option, None, Some, refl, ◌∙◌, ap, arith}
 use Rattle.c_prog.specs.declared.number.Span.{Span}
 use Rattle.c_prog.specs.declared.tree.Arm.{Arm as CodeArm}
 use Rattle.c_prog.specs.declared.tree.Stmt.{Stmt as CodeStmt}
-use Rattle.c_prog.specs.declared.tree.Test.{Test}
 use Rattle.c_prog.specs.declared.token.Keyword.TheVariants as key
 use Rattle.c_prog.specs.declared.token.Punctuator.TheVariants as mark
 use Rattle.c_prog.specs.declared.token.Token.{Token}

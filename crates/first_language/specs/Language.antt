@@ -8,7 +8,7 @@
 --
 -- The declared names differ, and each name that is used is declared. A number is a constant of type int, in any base. An `else`
 -- belongs to the nearest `if` (C11 6.8.4.1).
-use Rattle.std.specs.Prelude.{ℕ, zero, suc, ◌+◌, ◌≤◌, ◌≡◌, max, Bool, true, false, IsTrue, List, [], ◌∷◌, ◌++◌, Option, None, Some, position, bytes_eq, codes}
+use Rattle.std.specs.Prelude.{ℕ, suc, ◌+◌, ◌≤◌, ◌≡◌, max, Bool, true, false, IsTrue, List, [], ◌∷◌, ◌++◌, Some, position, bytes_eq, codes}
 use Rattle.std.specs.List.{list_any}
 use Rattle.c_prog.specs.declared.number.BaseId.{BaseId}
 use Rattle.c_prog.specs.declared.number.Span.{Span}

@@ -25,7 +25,7 @@ use Rattle.c_prog.specs.declared.token.Punctuator.TheVariants as mark
 use Rattle.c_prog.specs.declared.token.Token.{Token}
 use Rattle.c_prog.specs.declared.token.Word.{Word}
 use Rattle.c_prog.specs.declared.token.Word.TheVariants as word
-use Rattle.c_prog.specs.Source.{Stmt, Assign, Return, If, While, Block, Nothing, Stmts, Done, Next, Program}
+use Rattle.c_prog.specs.Source.{Stmt, Assign, Return, While, Block, Nothing, Stmts, Program}
 use Rattle.c_prog.specs.SourceViews.{listed, ladder}
 use Rattle.first_language.specs.Language.{nest_sum, nest_test}
 

@@ -168,3 +168,13 @@ fn program_at(alloc: Global, tokens: &[Token]) -> Result<Option<Program>, AllocE
         })),
     }
 }
+
+/// The program that tokens spell, if they spell one: `Spells` says which they are. Time and memory are linear in the tokens, and the
+/// depth of the recursion is bounded by the nesting that is allowed.
+pub fn parse(alloc: Global, tokens: &[Token]) -> Result<Option<Program>, AllocError>
+    requires { length tokens.now ≤ 2000000 }
+    ensures exact { IfOk result (λ found. Exactly (Spells tokens.now) (option_map program_of found)) }
+    ensures shaped { IfOk result (λ found. IfSome found (λ p. IsShaped (program_of p))) }
+{
+    program_at(alloc, tokens)
+}

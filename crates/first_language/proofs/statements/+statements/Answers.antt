@@ -1,6 +1,5 @@
-use Rattle.std.proofs.Common.{rules, arith, ◌≡◌, ◌<◌, ◌≤◌, ◌+◌, ◌-◌, suc, length, map}
+use Rattle.std.proofs.Common.{rules, arith, ◌<◌, length}
 use Rattle.first_language.specs.Reading.{stmt_at}
-use Rattle.first_language.specs.Views.{arm_of, read_of, arm_read_of}
 use Rattle.first_language.proofs.Steps.{stmt_inside, if_begins, body_step, arms_step}
 use Rattle.first_language.proofs.statements.+statements.Goals as goal
 
