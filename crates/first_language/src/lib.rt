@@ -2,7 +2,32 @@
 //! exact: tokens are refused only where they spell no program.
 #![tactic(auto)]
 
-pub mod parser;
-pub mod statements;
-pub mod sums;
-pub mod words;
+ghost use Rattle.std.specs.Prelude.{◌≤◌, length, option_map, IfOk, IfSome};
+ghost use Rattle.c_prog.specs.SourceViews.{program_of, IsShaped};
+ghost use Rattle.first_language.specs.Exactness.{Exactly};
+ghost use Rattle.first_language.specs.Language.{Spells};
+
+use c_prog::token::Token;
+use c_prog::tree::Program;
+use std::alloc::{AllocError, Global};
+
+mod parser;
+mod statements;
+mod sums;
+mod words;
+
+/// The program that tokens spell, if they spell one:
+///
+/// - `int main(void) {`, declarations `int name;` of different names, statements, and `}` as the last token;
+/// - a statement is an assignment, a `return`, an `if` with or without `else`, a `while` or a block; an `else` belongs to the nearest `if`;
+/// - a test compares two sums, and a sum adds and subtracts declared names and constants of type int;
+/// - there are at most 200,000 numbered statements, the closing brace among them, and nothing nests more than 200 deep.
+///
+/// `Spells` has the rules. Time and memory are linear in the tokens, and the recursion is no deeper than the nesting that is allowed.
+pub fn parse(alloc: Global, tokens: &[Token]) -> Result<Option<Program>, AllocError>
+    requires { length tokens.now ≤ 2000000 }
+    ensures exact { IfOk result (λ found. Exactly (Spells tokens.now) (option_map program_of found)) }
+    ensures shaped { IfOk result (λ found. IfSome found (λ p. IsShaped (program_of p))) }
+{
+    parser::program_at(alloc, tokens)
+}

@@ -1,9 +1,7 @@
 //! Whole programs.
 ghost use Rattle.std.specs.Prelude.{◌≡◌, ◌<◌, ◌≤◌, ◌*◌, ◌+◌, ◌-◌, ◌^◌, [], suc, length, option_copied, option_map, IfOk, IfSome};
 ghost use Rattle.indexmap.specs.IndexSet.{index_set_len};
-ghost use Rattle.c_prog.specs.SourceViews.{program_of, trees_of, IsShaped};
-ghost use Rattle.first_language.specs.Exactness.{Exactly};
-ghost use Rattle.first_language.specs.Language.{Spells};
+ghost use Rattle.c_prog.specs.SourceViews.{program_of, trees_of};
 ghost use Rattle.first_language.specs.Reading.{behind_main, header_at, declared_at, declarations_at, is_end, main_at, program_at};
 
 use crate::statements::body_at;
@@ -148,8 +146,9 @@ fn main_at(
     Ok(Some((body, spans)))
 }
 
+/// The program that tokens spell, if they spell one.
 #[tactic(auto, unfolding(crate::specs::Reading::program_at))]
-fn program_at(alloc: Global, tokens: &[Token]) -> Result<Option<Program>, AllocError>
+pub fn program_at(alloc: Global, tokens: &[Token]) -> Result<Option<Program>, AllocError>
     requires { length tokens.now ≤ 2000000 }
     ensures { IfOk result (λ found. option_map program_of found ≡ program_at tokens.now) }
 {
@@ -167,14 +166,4 @@ fn program_at(alloc: Global, tokens: &[Token]) -> Result<Option<Program>, AllocE
             spans: Items::from_vec(spans),
         })),
     }
-}
-
-/// The program that tokens spell, if they spell one: `Spells` says which they are. Time and memory are linear in the tokens, and the
-/// depth of the recursion is bounded by the nesting that is allowed.
-pub fn parse(alloc: Global, tokens: &[Token]) -> Result<Option<Program>, AllocError>
-    requires { length tokens.now ≤ 2000000 }
-    ensures exact { IfOk result (λ found. Exactly (Spells tokens.now) (option_map program_of found)) }
-    ensures shaped { IfOk result (λ found. IfSome found (λ p. IsShaped (program_of p))) }
-{
-    program_at(alloc, tokens)
 }
