@@ -80,8 +80,8 @@ test_here : (V : List (List ℕ)) (t : Test) (more : List Piece) (tokens : List 
 test_here V t more tokens spans u h =
     let right = spell_sum t.right more in
     let l =
-      sum_here V t.left (Mark (mark_of_relation t.relation) ∷ right) tokens spans
-      (λ ts places f. sign_none V (Mark (mark_of_relation t.relation)) right ts places tt (relation_unsigned t.relation) f) h in
+    sum_here V t.left (Mark (mark_of_relation t.relation) ∷ right) tokens spans
+    (λ ts places f. sign_none V (Mark (mark_of_relation t.relation)) right ts places tt (relation_unsigned t.relation) f) h in
     let r = relation_here V t.relation right l.rest spans l.fits in
     let s = sum_here V t.right more r.rest spans u r.fits in
     let ll = l.shorter in let rl = r.shorter in let sl = s.shorter in
@@ -98,7 +98,7 @@ pub condition_here : (V : List (List ℕ)) (d : ℕ) (t : Test) (more : List Pie
 condition_here V d t more tokens spans small h =
     let o = mark_here V mark.OpenParenthesis (spell_test t (Mark mark.CloseParenthesis ∷ more)) tokens spans h in
     let x =
-      test_here V t (Mark mark.CloseParenthesis ∷ more) o.rest spans (λ ts places f. sign_none V (Mark mark.CloseParenthesis) more ts places tt refl f) o.fits in
+    test_here V t (Mark mark.CloseParenthesis ∷ more) o.rest spans (λ ts places f. sign_none V (Mark mark.CloseParenthesis) more ts places tt refl f) o.fits in
     let c = mark_here V mark.CloseParenthesis more x.rest spans x.fits in
     let ol = o.shorter in let xl = x.shorter in let cl = c.shorter in
     record {
@@ -175,7 +175,6 @@ addends_found V (suc n) found all tokens rest e = by (λ before left f. addends_
         let first : all ≡ found = λ i. (pair i).0 in
         let second : rest ≡ tokens = λ i. (pair i).1 in
         record { more = []; same = first ∙ sym (append-nil found); spelled = λ more spans h. rw second at h; shaped = tt }
-
     by again (Some s) f e = by_atom again s.0 s.1 (atom_at V s.1) f refl e
 
 pub record FoundSum (V : List (List ℕ)) (s : Sum) (tokens rest : List Token) : Type 0 where
@@ -229,7 +228,7 @@ unfolding test_at
 test_found V t tokens rest e =
     bound (sum_at V tokens) _ (t, rest) e
     (λ l f e2. bound (relation_at l.1) _ (t, rest) e2
-      (λ r g e3. bound (sum_at V r.1) _ (t, rest) e3 (λ s h e4. test_of V t tokens rest l.1 r.1 s.1 l.0 s.0 r.0 f g h e4)))
+    (λ r g e3. bound (sum_at V r.1) _ (t, rest) e3 (λ s h e4. test_of V t tokens rest l.1 r.1 s.1 l.0 s.0 r.0 f g h e4)))
 
 small_nest : (a b : ℕ) → nat_le a b ≡ true → a ≤ b
 small_nest a b h = grind (arith, nat_tests)
@@ -261,7 +260,7 @@ unfolding condition_at
 condition_found V d t tokens rest e =
     bound (behind_mark mark.OpenParenthesis tokens) _ (t, rest) e
     (λ o f e2. bound (test_at V o) _ (t, rest) e2
-      (λ x g e3. bound (behind_mark mark.CloseParenthesis x.1) _ (t, rest) e3 (λ c h e4. condition_of V d t x.0 tokens rest o x.1 c f g h e4)))
+    (λ x g e3. bound (behind_mark mark.CloseParenthesis x.1) _ (t, rest) e3 (λ c h e4. condition_of V d t x.0 tokens rest o x.1 c f g h e4)))
 
 pub record FoundValue (V : List (List ℕ)) (own d : ℕ) (s : Sum) (tokens rest : List Token) : Type 0 where
   pub spelled : Spelled V (λ more. spell_sum s (Mark mark.Semicolon ∷ more)) tokens rest

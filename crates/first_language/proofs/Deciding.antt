@@ -77,10 +77,10 @@ unfolding header_at
 header_found V tokens rest e0 =
     bound (behind_key key.Int tokens) _ rest e0
     (λ a ka e1. bound (behind_main a) _ rest e1
-      (λ b kb e2. bound (behind_mark mark.OpenParenthesis b) _ rest e2
-        (λ c kc e3. bound (behind_key key.Void c) _ rest e3
-          (λ d kd e4. bound (behind_mark mark.CloseParenthesis d) _ rest e4
-            (λ e ke e5. spelled a b c d e ka kb kc kd ke e5)))))
+    (λ b kb e2. bound (behind_mark mark.OpenParenthesis b) _ rest e2
+    (λ c kc e3. bound (behind_key key.Void c) _ rest e3
+    (λ d kd e4. bound (behind_mark mark.CloseParenthesis d) _ rest e4
+    (λ e ke e5. spelled a b c d e ka kb kc kd ke e5)))))
   where
     spelled : (a b c d e : List Token) → behind_key key.Int tokens ≡ Some a → behind_main a ≡ Some b → behind_mark mark.OpenParenthesis b ≡ Some c →
         behind_key key.Void c ≡ Some d → behind_mark mark.CloseParenthesis d ≡ Some e → behind_mark mark.OpenBrace e ≡ Some rest → Spelled V spell_header tokens rest
@@ -91,8 +91,8 @@ header_found V tokens rest e0 =
         let two = Mark mark.OpenParenthesis ∷ three in
         key_found V key.Int tokens a ka (Text (codes "main") ∷ two) spans
         (main_name_found V a b kb two spans
-          (mark_found V mark.OpenParenthesis b c kc three spans
-            (key_found V key.Void c d kd four spans (mark_found V mark.CloseParenthesis d e ke five spans (mark_found V mark.OpenBrace e rest kf more spans h)))))
+        (mark_found V mark.OpenParenthesis b c kc three spans
+        (key_found V key.Void c d kd four spans (mark_found V mark.CloseParenthesis d e ke five spans (mark_found V mark.OpenBrace e rest kf more spans h)))))
 
 -- ---- declarations
 
@@ -148,7 +148,7 @@ declared_of V tokens behind next rest other name e f same =
     let called : other ≡ name = λ i. (pair i).0 in
     let left : next ≡ rest = λ i. (pair i).1 in
     let found : Spelled V (λ more. Text other ∷ Mark mark.Semicolon ∷ more) tokens next =
-      λ more spans h. name_found V other tokens behind e (Mark mark.Semicolon ∷ more) spans (mark_found V mark.Semicolon behind next f more spans h) in
+    λ more spans h. name_found V other tokens behind e (Mark mark.Semicolon ∷ more) spans (mark_found V mark.Semicolon behind next f more spans h) in
     rw (called, left) at found
 
 declared_found : (V : List (List ℕ)) (tokens rest : List Token) (name : List ℕ) → declared_at tokens ≡ Some (name, rest) →
@@ -233,9 +233,9 @@ main_here : (V : List (List ℕ)) (d : ℕ) (body : Stmts) (tokens : List Token)
     Fits V (spell_all body closing) tokens spans → main_at V d tokens ≡ Some (body, spans)
 main_here V d body tokens spans ok nests few h =
     let b =
-      body_here V d (stmt_at V d) (stmt_here V d) body (suc (length tokens)) [] closing tokens [] spans (omega arith) ok nests
-      (λ ts places f. let p = placed V (Mark mark.CloseBrace ∷ []) ts places f in key_none V key.Else (Mark mark.CloseBrace) [] ts p.later tt refl p.fits)
-      (λ ts places f. let p = placed V (Mark mark.CloseBrace ∷ []) ts places f in let c = mark_here V mark.CloseBrace [] ts p.later p.fits in (c.rest, c.is)) h in
+    body_here V d (stmt_at V d) (stmt_here V d) body (suc (length tokens)) [] closing tokens [] spans (omega arith) ok nests
+    (λ ts places f. let p = placed V (Mark mark.CloseBrace ∷ []) ts places f in key_none V key.Else (Mark mark.CloseBrace) [] ts p.later tt refl p.fits)
+    (λ ts places f. let p = placed V (Mark mark.CloseBrace ∷ []) ts places f in let c = mark_here V mark.CloseBrace [] ts p.later p.fits in (c.rest, c.is)) h in
     let p = placed V (Mark mark.CloseBrace ∷ []) b.rest b.later b.fits in
     let c = mark_here V mark.CloseBrace [] b.rest p.later p.fits in
     let number = counted V d body tokens b.rest b.now b.is in
@@ -259,7 +259,7 @@ main_of V d tokens rest b body spans e f ends small same =
     let tree : s.stmts ≡ body = sym (ap listed s.item ∙ listed_plain s.stmts) ∙ (λ i. (same i).0) in
     let places : s.added ++ here b.rest ≡ spans = ap (λ (x : List Span). x ++ here b.rest) (sym s.same) ∙ (λ i. (same i).1) in
     let close : Fits V closing b.rest (here b.rest ++ []) =
-      here_fits V (Mark mark.CloseBrace) [] b.rest [] tt (mark_found V mark.CloseBrace b.rest rest f [] [] (end_of rest ends, refl)) in
+    here_fits V (Mark mark.CloseBrace) [] b.rest [] tt (mark_found V mark.CloseBrace b.rest rest f [] [] (end_of rest ends, refl)) in
     let one : length (here b.rest) ≡ 1 = one_mark mark.CloseBrace b.rest rest f in
     let number = s.counted in
     let below = below_of (length b.spans) 200000 small in
@@ -277,7 +277,7 @@ main_of V d tokens rest b body spans e f ends small same =
 main_within : (V : List (List ℕ)) (d : ℕ) (tokens rest : List Token) (b : Read (List Stmt)) (body : Stmts) (spans : List Span) →
     body_at V d (stmt_at V d) (suc (length tokens)) [] [] tokens ≡ Some b → behind_mark mark.CloseBrace b.rest ≡ Some rest →
     cond {A = Option (Stmts × List Span)} (is_end rest)
-      (cond {A = Option (Stmts × List Span)} (nat_lt (length b.spans) 200000) (Some (listed b.item, b.spans ++ here b.rest)) None) None ≡ Some (body, spans) →
+    (cond {A = Option (Stmts × List Span)} (nat_lt (length b.spans) 200000) (Some (listed b.item, b.spans ++ here b.rest)) None) None ≡ Some (body, spans) →
     FoundMain V d tokens body spans
 main_within V d tokens rest b body spans e f same =
     let o = cond_then {A = Stmts × List Span} (is_end rest) _ (body, spans) same in
@@ -289,7 +289,7 @@ unfolding main_at
 main_found V d tokens body spans e =
     bound (body_at V d (stmt_at V d) (suc (length tokens)) [] [] tokens) _ (body, spans) e
     (λ b f e2. bound (behind_mark mark.CloseBrace b.rest) _ (body, spans) e2
-      (λ rest g e3. main_within V d tokens rest b body spans f g e3))
+    (λ rest g e3. main_within V d tokens rest b body spans f g e3))
 
 -- ---- programs
 
@@ -316,8 +316,8 @@ program_here tokens p h =
     let V = p.variables in
     let a = header_here V (spell_declarations p.variables (spell_all p.body closing)) tokens p.spans h.words in
     let d =
-      declarations_here V p.variables (suc (length a.rest)) [] (spell_all p.body closing) a.rest p.spans (omega arith) h.names
-      (λ ts places f. body_not_int V p.body ts places h.stmts f) a.fits in
+    declarations_here V p.variables (suc (length a.rest)) [] (spell_all p.body closing) a.rest p.spans (omega arith) h.names
+    (λ ts places f. body_not_int V p.body ts places h.stmts f) a.fits in
     let nests : nest_all p.body ≤ 198 = let n = h.nesting in omega arith in
     let few : count_all p.body < 200000 = let c = h.few in omega arith in
     program_is tokens a.rest d.rest p a.is d.is (main_here V 198 p.body d.rest p.spans h.stmts nests few d.fits)
@@ -352,7 +352,7 @@ unfolding program_at
 program_found tokens p e =
     bound (header_at tokens) _ p e
     (λ inner f e2. bound (declarations_at (suc (length inner)) [] inner) _ p e2
-      (λ d g e3. bound (main_at d.0 198 d.1) _ p e3 (λ m k same. as_found inner d.1 d.0 m.0 m.1 f g k same)))
+    (λ d g e3. bound (main_at d.0 198 d.1) _ p e3 (λ m k same. as_found inner d.1 d.0 m.0 m.1 f g k same)))
   where
     as_found : (inner behind : List Token) (names : List (List ℕ)) (body : Stmts) (spans : List Span) → header_at tokens ≡ Some inner →
         declarations_at (suc (length inner)) [] inner ≡ Some (names, behind) → main_at names 198 behind ≡ Some (body, spans) →

@@ -14,7 +14,6 @@ pub record Declares (names keys : List (List ℕ)) (tokens rest : List Token) : 
   pub keyed : keys ≡ names
   pub few : length names + length rest ≤ length tokens
 
-
 same_end : (names keys : List (List ℕ)) (tokens rest : List Token) (answer : Declarations) → Declares names keys tokens rest →
     ((n : ℕ) → declarations_at (suc n) names rest ≡ answer) → answer ≡ declarations_at (suc (length tokens)) [] tokens
 same_end names keys tokens rest answer d f = by d.rounds d.enough d.same
@@ -77,4 +76,3 @@ pub inserted_keys : (keys names now : List (List ℕ)) (value name : List ℕ) �
 inserted_keys keys names now value name e f fresh a =
     let k : list_any (bytes_eq value) keys ≡ false = (λ i. list_any (bytes_eq (f i)) (e i)) ∙ fresh in
     rw k at a ∙ (λ i. e i ++ f i ∷ [])
-

@@ -125,8 +125,7 @@ right_small a b d h = omega arith
 
 module _ (V : List (List ℕ)) (d : ℕ) (inner : Rule)
     (reach : (s : Stmt) (more : List Piece) (tokens : List Token) (acc spans : List Span) → IsStatement false s → nest 1 s ≤ d → (is_open s ≡ true → Closed V more) →
-      Fits V (spell s more) tokens spans → Reached Stmt V s more (length tokens) acc spans (inner acc tokens)) where
-
+    Fits V (spell s more) tokens spans → Reached Stmt V s more (length tokens) acc spans (inner acc tokens)) where
   arm_is : (test : Test) (s : Stmt) (tokens behind rest : List Token) (acc now : List Span) → condition_at V d tokens ≡ Some (test, behind) →
       inner acc behind ≡ Some (record { item = s; spans = now; rest = rest }) →
       arm_at V d inner acc tokens ≡ Some (record { item = (test, s); spans = now; rest = rest })
@@ -224,12 +223,12 @@ module _ (V : List (List ℕ)) (d : ℕ) (inner : Rule)
       let p = placed V (Key key.If ∷ inside) e.rest spans e.fits in
       let k = key_here V key.If inside e.rest p.later p.fits in
       let a =
-        arm_here test s follow k.rest (acc ++ here e.rest) p.later (left_small (nest_test test) (nest 1 s) d here_small) ok.0
-        (right_small (nest_test test) (nest 1 s) d here_small) (branch_closed V s t more ok.1 closed) k.fits in
+      arm_here test s follow k.rest (acc ++ here e.rest) p.later (left_small (nest_test test) (nest 1 s) d here_small) ok.0
+      (right_small (nest_test test) (nest 1 s) d here_small) (branch_closed V s t more ok.1 closed) k.fits in
       let el = e.shorter in let kl = k.shorter in let al = a.shorter in
       let r =
-        arms_here t n (arms ++ (test, s) ∷ []) more a.rest a.now a.later (omega arith) ok.2
-        (right_small (max (nest_test test) (nest 1 s)) (nest 0 t) d both) closed a.fits in
+      arms_here t n (arms ++ (test, s) ∷ []) more a.rest a.now a.later (omega arith) ok.2
+      (right_small (max (nest_test test) (nest 1 s)) (nest 0 t) d both) closed a.fits in
       let rl = r.shorter in
       record {
         now = r.now;
@@ -270,10 +269,10 @@ module _ (V : List (List ℕ)) (d : ℕ) (inner : Rule)
   body_here (Next s stmts) (suc n) found close tokens acc spans enough ok nests closed ends h =
       let follow = spell_all stmts close in
       let b =
-        reach s follow tokens acc spans ok.0 (left_small (nest 1 s) (nest_all stmts) d nests) (λ o. body_closed stmts close ok.1 closed) h in
+      reach s follow tokens acc spans ok.0 (left_small (nest 1 s) (nest_all stmts) d nests) (λ o. body_closed stmts close ok.1 closed) h in
       let bl = b.shorter in
       let r =
-        body_here stmts n (found ++ s ∷ []) close b.rest b.now b.later (omega arith) ok.1 (right_small (nest 1 s) (nest_all stmts) d nests) closed ends b.fits in
+      body_here stmts n (found ++ s ∷ []) close b.rest b.now b.later (omega arith) ok.1 (right_small (nest 1 s) (nest_all stmts) d nests) closed ends b.fits in
       let rl = r.shorter in
       record {
         now = r.now;
@@ -388,8 +387,8 @@ module _ (V : List (List ℕ)) (d : ℕ) (inner : Rule)
       let p = placed V (Key key.While ∷ behind) tokens spans h in
       let k = key_here V key.While behind tokens p.later p.fits in
       let a =
-        arm_here test s more k.rest (acc ++ here tokens) p.later (left_small (nest_test test) (nest 1 s) d both) ok
-        (right_small (nest_test test) (nest 1 s) d both) closed k.fits in
+      arm_here test s more k.rest (acc ++ here tokens) p.later (left_small (nest_test test) (nest 1 s) d both) ok
+      (right_small (nest_test test) (nest 1 s) d both) closed k.fits in
       let kl = k.shorter in let al = a.shorter in
       record {
         now = a.now;
@@ -409,11 +408,11 @@ module _ (V : List (List ℕ)) (d : ℕ) (inner : Rule)
       let p = placed V (Key key.If ∷ behind) tokens spans h in
       let k = key_here V key.If behind tokens p.later p.fits in
       let a =
-        arm_here test s follow k.rest (acc ++ here tokens) p.later (left_small (nest_test test) (nest 1 s) d here_small) ok.0
-        (right_small (nest_test test) (nest 1 s) d here_small) (branch_closed V s t more ok.1 closed) k.fits in
+      arm_here test s follow k.rest (acc ++ here tokens) p.later (left_small (nest_test test) (nest 1 s) d here_small) ok.0
+      (right_small (nest_test test) (nest 1 s) d here_small) (branch_closed V s t more ok.1 closed) k.fits in
       let r =
-        arms_here t (suc (length a.rest)) ((test, s) ∷ []) more a.rest a.now a.later (omega arith) ok.2
-        (right_small (max (nest_test test) (nest 1 s)) (nest 0 t) d both) closed a.fits in
+      arms_here t (suc (length a.rest)) ((test, s) ∷ []) more a.rest a.now a.later (omega arith) ok.2
+      (right_small (max (nest_test test) (nest 1 s)) (nest 0 t) d both) closed a.fits in
       let kl = k.shorter in let al = a.shorter in let rl = r.shorter in
       record {
         now = r.now;
@@ -428,9 +427,9 @@ module _ (V : List (List ℕ)) (d : ℕ) (inner : Rule)
       let close = Mark mark.CloseBrace ∷ more in
       let k = mark_here V mark.OpenBrace (spell_all stmts close) tokens spans h in
       let b =
-        body_here stmts (suc (length k.rest)) [] close k.rest acc spans (omega arith) ok (omega arith)
-        (λ ts places f. key_none V key.Else (Mark mark.CloseBrace) more ts places tt refl f)
-        (λ ts places f. let c = mark_here V mark.CloseBrace more ts places f in (c.rest, c.is)) k.fits in
+      body_here stmts (suc (length k.rest)) [] close k.rest acc spans (omega arith) ok (omega arith)
+      (λ ts places f. key_none V key.Else (Mark mark.CloseBrace) more ts places tt refl f)
+      (λ ts places f. let c = mark_here V mark.CloseBrace more ts places f in (c.rest, c.is)) k.fits in
       let c = mark_here V mark.CloseBrace more b.rest b.later b.fits in
       let kl = k.shorter in let bl = b.shorter in let cl = c.shorter in
       record {

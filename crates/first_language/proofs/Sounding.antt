@@ -126,7 +126,6 @@ nearest_of s Nothing ok e = absurd (cc)
 
 module _ (V : List (List ℕ)) (d : ℕ) (inner : Rule)
     (sound : (acc : List Span) (tokens : List Token) (f : Read Stmt) → inner acc tokens ≡ Some f → Sound V d acc tokens f) where
-
   arm_of : (acc : List Span) (tokens behind : List Token) (test : Test) (b : Read Stmt) (f : Read (Test × Stmt)) → condition_at V d tokens ≡ Some (test, behind) →
       inner acc behind ≡ Some b →
       ◌≡◌ {A = Option (Read (Test × Stmt))} (Some (record { item = (test, b.item); spans = b.spans; rest = b.rest })) (Some f) → SoundArm V d acc tokens f
@@ -354,7 +353,7 @@ module _ (V : List (List ℕ)) (d : ℕ) (inner : Rule)
       } in
       let tree : If a.item.0 a.item.1 r.other ≡ f.item = sym r.item in
       let whole : ◌≡◌ {A = Read Stmt} (record { item = If a.item.0 a.item.1 r.other; spans = f.spans; rest = f.rest }) f =
-        λ i. record { item = tree i; spans = f.spans; rest = f.rest } in rw whole at found
+      λ i. record { item = tree i; spans = f.spans; rest = f.rest } in rw whole at found
 
   if_sound : (acc : List Span) (tokens behind : List Token) (f : Read Stmt) → behind_key key.If tokens ≡ Some behind →
       if_at V d inner (acc ++ here tokens) behind ≡ Some f → Sound V (suc d) acc tokens f
@@ -414,7 +413,7 @@ module _ (V : List (List ℕ)) (d : ℕ) (inner : Rule)
   assignment_sound acc tokens f same =
       bound (target_at V tokens) _ f same
       (λ t e s2. bound (behind_mark mark.Assign t.1) _ f s2
-        (λ next g s3. bound (value_at V 1 d next) _ f s3 (λ v k s4. assignment_of acc tokens t.1 next v.1 t.0 v.0 f e g k s4)))
+      (λ next g s3. bound (value_at V 1 d next) _ f s3 (λ v k s4. assignment_of acc tokens t.1 next v.1 t.0 v.0 f e g k s4)))
 
   block_of : (acc : List Span) (tokens behind rest : List Token) (b : Read (List Stmt)) (f : Read Stmt) → behind_mark mark.OpenBrace tokens ≡ Some behind →
       SoundBody V d acc behind [] b → behind_mark mark.CloseBrace b.rest ≡ Some rest →
@@ -437,7 +436,7 @@ module _ (V : List (List ℕ)) (d : ℕ) (inner : Rule)
       let list : listed b.item ≡ s.stmts = ap listed s.item ∙ listed_plain s.stmts in
       let tree : Block s.stmts ≡ Block (listed b.item) = ap Block (sym list) in
       let whole : ◌≡◌ {A = Read Stmt} (record { item = Block s.stmts; spans = b.spans; rest = rest }) f =
-        (λ i. record { item = tree i; spans = b.spans; rest = rest }) ∙ (cc) in rw whole at found
+      (λ i. record { item = tree i; spans = b.spans; rest = rest }) ∙ (cc) in rw whole at found
 
   block_sound : (acc : List Span) (tokens behind : List Token) (f : Read Stmt) → behind_mark mark.OpenBrace tokens ≡ Some behind →
       block_at V d inner acc behind ≡ Some f → Sound V (suc d) acc tokens f
@@ -445,7 +444,7 @@ module _ (V : List (List ℕ)) (d : ℕ) (inner : Rule)
   block_sound acc tokens behind f e same =
       bound (body_at V d inner (suc (length behind)) [] acc behind) _ f same
       (λ b g s2. bound (behind_mark mark.CloseBrace b.rest) _ f s2
-        (λ rest k s3. block_of acc tokens behind rest b f e (body_sound (suc (length behind)) acc behind [] b g) k s3))
+      (λ rest k s3. block_of acc tokens behind rest b f e (body_sound (suc (length behind)) acc behind [] b g) k s3))
 
   pub rule_sound : (acc : List Span) (tokens : List Token) (f : Read Stmt) → rule_at V d inner acc tokens ≡ Some f → Sound V (suc d) acc tokens f
   unfolding rule_at
@@ -465,7 +464,7 @@ module _ (V : List (List ℕ)) (d : ℕ) (inner : Rule)
       by_while : (o : Option (List Token)) → behind_key key.While tokens ≡ o →
           rule_while V d inner acc tokens o
           (rule_return V d inner acc tokens (behind_key key.Return tokens)
-            (rule_block V d inner acc tokens (behind_mark mark.OpenBrace tokens) (assignment_at V d acc tokens))) ≡ Some f →
+          (rule_block V d inner acc tokens (behind_mark mark.OpenBrace tokens) (assignment_at V d acc tokens))) ≡ Some f →
           Sound V (suc d) acc tokens f
       by_while None e same = by_return (behind_key key.Return tokens) refl same
       by_while (Some behind) e same = while_sound acc tokens behind f e same
@@ -473,8 +472,8 @@ module _ (V : List (List ℕ)) (d : ℕ) (inner : Rule)
       by_if : (o : Option (List Token)) → behind_key key.If tokens ≡ o →
           rule_if V d inner acc tokens o
           (rule_while V d inner acc tokens (behind_key key.While tokens)
-            (rule_return V d inner acc tokens (behind_key key.Return tokens)
-              (rule_block V d inner acc tokens (behind_mark mark.OpenBrace tokens) (assignment_at V d acc tokens)))) ≡ Some f →
+          (rule_return V d inner acc tokens (behind_key key.Return tokens)
+          (rule_block V d inner acc tokens (behind_mark mark.OpenBrace tokens) (assignment_at V d acc tokens)))) ≡ Some f →
           Sound V (suc d) acc tokens f
       by_if None e same = by_while (behind_key key.While tokens) refl same
       by_if (Some behind) e same = if_sound acc tokens behind f e same

@@ -14,6 +14,8 @@ use std::alloc::{AllocError, Global};
 mod parser;
 mod statements;
 mod sums;
+#[cfg(test)]
+mod tests;
 mod words;
 
 /// The program that tokens spell, if they spell one:

@@ -85,7 +85,10 @@ struct Declared<'a> {
     rest: &'a [Token],
 }
 
-fn declarations_at<'a>(alloc: Global, tokens: &'a [Token]) -> Result<Option<Declared<'a>>, AllocError>
+fn declarations_at<'a>(
+    alloc: Global,
+    tokens: &'a [Token],
+) -> Result<Option<Declared<'a>>, AllocError>
     ensures found { IfOk result (λ found. option_map (λ d. (d.names.items, d.rest.now)) found ≡ declarations_at (suc (length tokens.now)) [] tokens.now) }
     ensures keyed { IfOk result (λ found. IfSome found (λ d. d.index.keys ≡ d.names.items)) }
     ensures few { IfOk result (λ found. IfSome found (λ d. length d.names.items ≤ length tokens.now)) }

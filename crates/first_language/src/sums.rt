@@ -87,7 +87,14 @@ pub fn test_at<'a>(
     let Some((right, rest)) = sum_at(alloc, next, variables)? else {
         return Ok(None);
     };
-    Ok(Some((Test { left, relation, right }, rest)))
+    Ok(Some((
+        Test {
+            left,
+            relation,
+            right,
+        },
+        rest,
+    )))
 }
 
 /// A test in parentheses that nests at most `budget` deep, and the tokens behind it.

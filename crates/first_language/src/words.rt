@@ -95,7 +95,10 @@ fn variable_of(word: &Word, variables: &IndexSet<Name>) -> Option<BaseId>
 
 /// A first token that is the name of a variable, and the tokens behind it.
 #[tactic(auto, unfolding(crate::specs::Reading::target_at))]
-pub fn target_at<'a>(tokens: &'a [Token], variables: &IndexSet<Name>) -> Option<(BaseId, &'a [Token])>
+pub fn target_at<'a>(
+    tokens: &'a [Token],
+    variables: &IndexSet<Name>,
+) -> Option<(BaseId, &'a [Token])>
     requires { index_set_len variables.now < 2 ^ 32 - 1 }
     ensures found { option_map (λ f. (f.0, f.1.now)) result ≡ target_at variables.now.keys tokens.now }
     ensures shorter { IfSome result (λ f. length f.1.now < length tokens.now) }

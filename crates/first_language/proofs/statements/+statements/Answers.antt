@@ -26,8 +26,8 @@ body_at-reading-preserved t c =
 pub if_at-returns-in_ok-push-in-Some-clause-found : goal.if_at-returns-in_ok-push-in-Some-clause-found
 if_at-returns-in_ok-push-in-Some-clause-found t c =
     rw (if_begins c.args.variables.now.keys c.args.budget (stmt_at c.args.variables.now.keys c.args.budget) c.args.spans.now.items c.arm_at.new.spans.items
-      c.args.tokens.now c.in-Some.rest.now c.in-Some.arm c.new-arms.result.items c.push.new.self.items
-      (rw c.in-Some.is at c.in_ok-arm_at.ensures.found) c.new-arms.ensures.items c.in_ok-push-in-Some.ensures.items) c.arms_at.ensures.found
+    c.args.tokens.now c.in-Some.rest.now c.in-Some.arm c.new-arms.result.items c.push.new.self.items
+    (rw c.in-Some.is at c.in_ok-arm_at.ensures.found) c.new-arms.ensures.items c.in_ok-push-in-Some.ensures.items) c.arms_at.ensures.found
 
 pub statement_at-returns-clause-found : goal.statement_at-returns-clause-found
 statement_at-returns-clause-found t c =
