@@ -1,7 +1,7 @@
-pub mod Cutting
-pub mod Fronts
-pub mod CutSteps
-pub mod Numbers
+pub mod Steps
 pub mod Declaring
-pub mod Stating
-pub mod Shaping
+pub mod Fronts
+pub mod Additions
+pub mod Reaching
+pub mod Sounding
+pub mod Deciding

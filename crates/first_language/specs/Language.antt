@@ -1,151 +1,211 @@
 -- The language that is read: which programs the tokens of a file spell.
 --
---     file = "int" "main" "(" "void" ")" "{" { "int" name ";" } { name "=" number ";" | "return" (name | number) ";" } "}"
-use Rattle.std.specs.Prelude.{ℕ, suc, ◌+◌, ◌-◌, ◌*◌, ◌≡◌, ◌≤◌, ◌==◌, Bool, false, List, [], ◌∷◌, ◌++◌, length, Option, None, Some, slice_get, position, bytes_eq}
+--     file = "int" "main" "(" "void" ")" "{" { "int" name ";" } { stmt } "}"
+--     stmt = name "=" sum ";" | "return" sum ";" | "while" "(" test ")" stmt | "{" { stmt } "}"
+--          | "if" "(" test ")" stmt [ "else" stmt ]
+--     test = sum ( "<" | "<=" | ">" | ">=" | "==" | "!=" ) sum
+--     sum  = atom { ( "+" | "-" ) atom }          atom = name | number
+--
+-- The declared names differ, and each name that is used is declared. A number is a constant of type int, in any base. An `else`
+-- belongs to the nearest `if` (C11 6.8.4.1).
+use Rattle.std.specs.Prelude.{ℕ, suc, ◌+◌, ◌≤◌, ◌≡◌, max, Bool, true, false, IsTrue, List, [], ◌∷◌, ◌++◌, Some, position, bytes_eq, codes}
 use Rattle.std.specs.List.{list_any}
-use lib.Chars.{codes}
-use Rattle.c_prog.specs.declared.number.Span.{Span}
 use Rattle.c_prog.specs.declared.number.BaseId.{BaseId}
+use Rattle.c_prog.specs.declared.number.Span.{Span}
+use Rattle.c_prog.specs.declared.tree.Addend.{Addend}
 use Rattle.c_prog.specs.declared.tree.Atom.{Atom}
 use Rattle.c_prog.specs.declared.tree.Atom.TheVariants.{Number, Variable}
-use Rattle.c_prog.specs.declared.tree.Stmt.{Stmt}
-use Rattle.c_prog.specs.declared.tree.Stmt.TheVariants.{Assign as AssignStmt, Return}
-use Rattle.c_prog.specs.declared.tree.Program.{Program}
-use Rattle.first_language.specs.declared.token.Punctuator.{Punctuator}
-use Rattle.first_language.specs.declared.token.Punctuator.TheVariants.{OpenParenthesis, CloseParenthesis, OpenBrace, CloseBrace, Semicolon, Assign}
-use Rattle.first_language.specs.declared.token.Word.{Word}
-use Rattle.first_language.specs.declared.token.Word.TheVariants.{Identifier, Digits, Punctuator as PunctuatorWord}
-use Rattle.first_language.specs.declared.token.Token.{Token}
-use Rattle.first_language.specs.Tokens.{AreTokensOf}
+use Rattle.c_prog.specs.declared.tree.Rel.{Rel}
+use Rattle.c_prog.specs.declared.tree.Rel.TheVariants.{Lt, Le, Gt, Ge, Eq, Ne}
+use Rattle.c_prog.specs.declared.tree.Sign.{Sign}
+use Rattle.c_prog.specs.declared.tree.Sign.TheVariants as sign
+use Rattle.c_prog.specs.declared.tree.Sum.{Sum}
+use Rattle.c_prog.specs.declared.tree.Test.{Test}
+use Rattle.c_prog.specs.declared.token.IntegerConstant.{IntegerConstant}
+use Rattle.c_prog.specs.declared.token.Keyword.{Keyword}
+use Rattle.c_prog.specs.declared.token.Keyword.TheVariants as key
+use Rattle.c_prog.specs.declared.token.Length.TheVariants.{Plain}
+use Rattle.c_prog.specs.declared.token.Punctuator.{Punctuator}
+use Rattle.c_prog.specs.declared.token.Punctuator.TheVariants as mark
+use Rattle.c_prog.specs.declared.token.Token.{Token}
+use Rattle.c_prog.specs.declared.token.Word.{Word}
+use Rattle.c_prog.specs.declared.token.Word.TheVariants as word
+use Rattle.c_prog.specs.Source.{Stmt, Assign, Return, If, While, Block, Nothing, Stmts, Done, Next, Program, count_all}
 
--- C11 6.4.1
-abbrev pub keywords : List (List ℕ)
-keywords =
-    codes "auto" ∷ codes "break" ∷ codes "case" ∷ codes "char" ∷ codes "const" ∷ codes "continue" ∷ codes "default" ∷ codes "do"
-    ∷ codes "double" ∷ codes "else" ∷ codes "enum" ∷ codes "extern" ∷ codes "float" ∷ codes "for" ∷ codes "goto" ∷ codes "if"
-    ∷ codes "inline" ∷ codes "int" ∷ codes "long" ∷ codes "register" ∷ codes "restrict" ∷ codes "return" ∷ codes "short"
-    ∷ codes "signed" ∷ codes "sizeof" ∷ codes "static" ∷ codes "struct" ∷ codes "switch" ∷ codes "typedef" ∷ codes "union"
-    ∷ codes "unsigned" ∷ codes "void" ∷ codes "volatile" ∷ codes "while" ∷ codes "_Alignas" ∷ codes "_Alignof" ∷ codes "_Atomic"
-    ∷ codes "_Bool" ∷ codes "_Complex" ∷ codes "_Generic" ∷ codes "_Imaginary" ∷ codes "_Noreturn" ∷ codes "_Static_assert"
-    ∷ codes "_Thread_local" ∷ []
+-- ---- words
 
-unfoldable pub is_keyword : List ℕ → Bool
-is_keyword text = list_any (bytes_eq text) keywords
+-- A piece of a program's spelling: a word, or `Here` before the first word of a numbered statement.
+pub data Piece : Type 0 where
+  Key : Keyword → Piece
+  Mark : Punctuator → Piece
+  Text : List ℕ → Piece
+  Mention : BaseId → Piece
+  Constant : ℕ → Piece
+  Here : Piece
 
--- the number that decimal digits write, after a number that was read before them
-unfoldable pub number_after : ℕ → List ℕ → ℕ
-number_after n [] = n
-number_after n (d ∷ ds) = number_after (10 * n + (d - 48)) ds
-
--- a first digit 0 stands alone
-abbrev pub has_leading_zero : List ℕ → Bool
-has_leading_zero [] = false
-has_leading_zero (d ∷ []) = false
-has_leading_zero (d ∷ e ∷ ds) = d == 48
-
--- the digits write this number, which is a value of int
-pub record Writes (digits : List ℕ) (n : ℕ) : Type 0 where
-  pub canonical : has_leading_zero digits ≡ false
-  pub value : number_after 0 digits ≡ n
-  pub small : n ≤ 2147483647
-
--- ---- single tokens
-
-abbrev pub IsWordOf : Word → Option Token → Type 0
-IsWordOf w None = ⊥
-IsWordOf w (Some t) = t.word ≡ w
-
--- the token at an index is this word
-abbrev pub HasWord : List Token → ℕ → Word → Type 0
-HasWord tokens at w = IsWordOf w (slice_get tokens at)
-
-abbrev pub HasMark : List Token → ℕ → Punctuator → Type 0
-HasMark tokens at p = HasWord tokens at (PunctuatorWord p)
-
-abbrev pub HasText : List Token → ℕ → List ℕ → Type 0
-HasText tokens at text = HasWord tokens at (Identifier text)
-
-abbrev pub IsSpanOf : Span → Option Token → Type 0
-IsSpanOf span None = ⊥
-IsSpanOf span (Some t) = t.span ≡ span
-
-abbrev pub HasSpan : List Token → ℕ → Span → Type 0
-HasSpan tokens at span = IsSpanOf span (slice_get tokens at)
-
--- the token is a number
-pub record HasNumber (tokens : List Token) (at : ℕ) (n : ℕ) : Type 0 where
-  pub digits : List ℕ
-  pub word : HasWord tokens at (Digits digits)
-  pub writes : Writes digits n
-
--- the token is the name of a variable; `main` is base 0, and variables are numbered from 1
-pub record HasVariable (variables : List (List ℕ)) (tokens : List Token) (at : ℕ) (base : BaseId) : Type 0 where
-  pub text : List ℕ
+-- the text is the name of this variable; `main` is base 0, and variables are numbered from 1
+pub record Names (variables : List (List ℕ)) (text : List ℕ) (base : BaseId) : Type 0 where
   pub index : ℕ
-  pub word : HasText tokens at text
   pub place : position (bytes_eq text) variables ≡ Some index
   pub number : base.0 ≡ suc index
 
-abbrev pub HasAtom : List (List ℕ) → List Token → ℕ → Atom → Type 0
-HasAtom variables tokens at (Number n) = HasNumber tokens at n
-HasAtom variables tokens at (Variable base) = HasVariable variables tokens at base
+-- the constant is of type int and has this value (C11 6.4.4.1)
+pub record IsInt (c : IntegerConstant) (n : ℕ) : Type 0 where
+  pub value : c.value ≡ n
+  pub small : n ≤ 2147483647
+  pub signed : c.unsigned ≡ false
+  pub plain : c.length ≡ Plain
 
--- ---- declarations
+-- the word of a token is this piece
+abbrev pub Says : List (List ℕ) → Piece → Word → Type 0
+Says variables (Key k) (word.Keyword found) = found ≡ k
+Says variables (Mark p) (word.Punctuator found) = found ≡ p
+Says variables (Text text) (word.Identifier found) = found ≡ text
+Says variables (Mention base) (word.Identifier text) = Names variables text base
+Says variables (Constant n) (word.Integer c) = IsInt c n
+Says variables _ _ = ⊥
 
--- `int name ;`, of a name that is no keyword and that no declaration before has
-pub record Declares (seen : List (List ℕ)) (tokens : List Token) (at : ℕ) (name : List ℕ) : Type 0 where
-  pub type : HasText tokens at (codes "int")
-  pub text : HasText tokens (at + 1) name
-  pub plain : is_keyword name ≡ false
-  pub fresh : list_any (bytes_eq name) seen ≡ false
-  pub ends : HasMark tokens (at + 2) Semicolon
+-- a token begins the list, and this is its place
+abbrev pub IsPlaced : List Token → Span → Type 0
+IsPlaced [] span = ⊥
+IsPlaced (t ∷ tokens) span = t.span ≡ span
 
--- declarations of these names, after those that were seen, as long as `int` stands there
-abbrev pub DeclaresAll : List (List ℕ) → List Token → ℕ → List (List ℕ) → Type 0
-DeclaresAll seen tokens at [] = HasText tokens at (codes "int") → ⊥
-DeclaresAll seen tokens at (name ∷ names) =
-    Declares seen tokens at name × DeclaresAll (seen ++ name ∷ []) tokens (at + 3) names
+-- the tokens are just these pieces, and the spans are the places of the numbered statements
+abbrev pub Fits : List (List ℕ) → List Piece → List Token → List Span → Type 0
+Fits variables [] tokens spans = (tokens ≡ []) × (spans ≡ [])
+Fits variables (Here ∷ more) tokens [] = ⊥
+Fits variables (Here ∷ more) tokens (span ∷ spans) = IsPlaced tokens span × Fits variables more tokens spans
+Fits variables (w ∷ more) [] spans = ⊥
+Fits variables (w ∷ more) (t ∷ tokens) spans = Says variables w t.word × Fits variables more tokens spans
 
--- ---- statements
+-- ---- the spelling of a tree, before the pieces of what follows it
 
-abbrev pub HasStmt : List (List ℕ) → List Token → ℕ → Stmt → Type 0
-HasStmt variables tokens at (AssignStmt target value) =
-    HasVariable variables tokens at target × HasMark tokens (at + 1) Assign × HasNumber tokens (at + 2) value × HasMark tokens (at + 3) Semicolon
-HasStmt variables tokens at (Return atom) =
-    HasText tokens at (codes "return") × HasAtom variables tokens (at + 1) atom × HasMark tokens (at + 2) Semicolon
+abbrev pub spell_atom : Atom → List Piece → List Piece
+spell_atom (Number n) more = Constant n ∷ more
+spell_atom (Variable base) more = Mention base ∷ more
 
--- how many tokens a statement has
-abbrev pub width : Stmt → ℕ
-width (AssignStmt target value) = 4
-width (Return atom) = 3
+abbrev pub mark_of_sign : Sign → Punctuator
+mark_of_sign sign.Plus = mark.Plus
+mark_of_sign sign.Minus = mark.Minus
 
--- statements with their places, and then the closing brace with its place as the last token
-abbrev pub HasBody : List (List ℕ) → List Token → ℕ → List Stmt → List Span → Type 0
-HasBody variables tokens at [] [] = ⊥
-HasBody variables tokens at [] (span ∷ []) = HasMark tokens at CloseBrace × HasSpan tokens at span × (length tokens ≡ at + 1)
-HasBody variables tokens at [] (span ∷ more ∷ spans) = ⊥
-HasBody variables tokens at (s ∷ body) [] = ⊥
-HasBody variables tokens at (s ∷ body) (span ∷ spans) =
-    HasStmt variables tokens at s × HasSpan tokens at span × HasBody variables tokens (at + width s) body spans
+abbrev pub spell_addends : List Addend → List Piece → List Piece
+spell_addends [] more = more
+spell_addends (a ∷ addends) more = Mark (mark_of_sign a.sign) ∷ spell_atom a.atom (spell_addends addends more)
+
+abbrev pub spell_sum : Sum → List Piece → List Piece
+spell_sum s more = spell_atom s.first (spell_addends s.more more)
+
+abbrev pub mark_of_relation : Rel → Punctuator
+mark_of_relation Lt = mark.Less
+mark_of_relation Le = mark.LessEqual
+mark_of_relation Gt = mark.Greater
+mark_of_relation Ge = mark.GreaterEqual
+mark_of_relation Eq = mark.Equal
+mark_of_relation Ne = mark.NotEqual
+
+abbrev pub spell_test : Test → List Piece → List Piece
+spell_test t more = spell_sum t.left (Mark (mark_of_relation t.relation) ∷ spell_sum t.right more)
+
+-- the `else` before the second branch of an `if`, if there is one
+abbrev pub spell_else : Stmt → List Piece → List Piece
+spell_else Nothing more = more
+spell_else _ more = Key key.Else ∷ more
+
+abbrev mutual
+  pub spell : Stmt → List Piece → List Piece
+  spell (Assign target value) more = Here ∷ Mention target ∷ Mark mark.Assign ∷ spell_sum value (Mark mark.Semicolon ∷ more)
+  spell (Return value) more = Here ∷ Key key.Return ∷ spell_sum value (Mark mark.Semicolon ∷ more)
+  spell (If test s t) more =
+      Here ∷ Key key.If ∷ Mark mark.OpenParenthesis ∷ spell_test test (Mark mark.CloseParenthesis ∷ spell s (spell_else t (spell t more)))
+  spell (While test s) more = Here ∷ Key key.While ∷ Mark mark.OpenParenthesis ∷ spell_test test (Mark mark.CloseParenthesis ∷ spell s more)
+  spell (Block stmts) more = Mark mark.OpenBrace ∷ spell_all stmts (Mark mark.CloseBrace ∷ more)
+  spell Nothing more = more
+
+  pub spell_all : Stmts → List Piece → List Piece
+  spell_all Done more = more
+  spell_all (Next s stmts) more = spell s (spell_all stmts more)
+
+abbrev pub spell_declarations : List (List ℕ) → List Piece → List Piece
+spell_declarations [] more = more
+spell_declarations (name ∷ names) more = Key key.Int ∷ Text name ∷ Mark mark.Semicolon ∷ spell_declarations names more
+
+abbrev pub spell_program : Program → List Piece
+spell_program p =
+    Key key.Int ∷ Text (codes "main") ∷ Mark mark.OpenParenthesis ∷ Key key.Void ∷ Mark mark.CloseParenthesis ∷ Mark mark.OpenBrace
+    ∷ spell_declarations p.variables (spell_all p.body (Here ∷ Mark mark.CloseBrace ∷ []))
+
+-- ---- which trees are spelled
+
+-- none of the names is among those before it
+abbrev pub AreFresh : List (List ℕ) → List (List ℕ) → Type 0
+AreFresh before [] = Unit {0}
+AreFresh before (name ∷ names) = (list_any (bytes_eq name) before ≡ false) × AreFresh (before ++ name ∷ []) names
+
+-- the statement ends in an `if` without `else`, to which an `else` behind it would belong
+abbrev pub is_open : Stmt → Bool
+is_open (Assign target value) = false
+is_open (Return value) = false
+is_open (If test s t) = is_open t
+is_open (While test s) = is_open s
+is_open (Block stmts) = false
+is_open Nothing = true
+
+-- where there is an `else`, it belongs to the nearest `if`
+abbrev pub IsNearest : Stmt → Stmt → Type 0
+IsNearest s Nothing = Unit {0}
+IsNearest s _ = is_open s ≡ false
+
+-- A statement, or `Nothing` where it may be left out.
+abbrev mutual
+  pub IsStatement : Bool → Stmt → Type 0
+  IsStatement optional (Assign target value) = Unit {0}
+  IsStatement optional (Return value) = Unit {0}
+  IsStatement optional (If test s t) = IsStatement false s × IsNearest s t × IsStatement true t
+  IsStatement optional (While test s) = IsStatement false s
+  IsStatement optional (Block stmts) = AreStatements stmts
+  IsStatement optional Nothing = IsTrue optional
+
+  pub AreStatements : Stmts → Type 0
+  AreStatements Done = Unit {0}
+  AreStatements (Next s stmts) = IsStatement false s × AreStatements stmts
+
+-- ---- nesting: how many nodes the longest path into a tree has
+
+-- an atom is a node, and so is a sum of several
+abbrev pub nest_addends : List Addend → ℕ
+nest_addends [] = 1
+nest_addends (a ∷ addends) = 2
+
+abbrev pub nest_sum : Sum → ℕ
+nest_sum s = nest_addends s.more
+
+abbrev pub nest_test : Test → ℕ
+nest_test t = suc (max (nest_sum t.left) (nest_sum t.right))
+
+-- An `if` adds 1, but `own` where it goes on with a ladder: a ladder is one node. An assignment is two, the statement's and its own.
+abbrev mutual
+  pub nest : ℕ → Stmt → ℕ
+  nest own (Assign target value) = suc (suc (nest_sum value))
+  nest own (Return value) = suc (nest_sum value)
+  nest own (If test s t) = own + max (max (nest_test test) (nest 1 s)) (nest 0 t)
+  nest own (While test s) = suc (max (nest_test test) (nest 1 s))
+  nest own (Block stmts) = suc (nest_all stmts)
+  nest own Nothing = 0
+
+  pub nest_all : Stmts → ℕ
+  nest_all Done = 0
+  nest_all (Next s stmts) = max (nest 1 s) (nest_all stmts)
+
+-- the definition of `main` is a node and its block another
+abbrev pub nest_program : Program → ℕ
+nest_program p = suc (suc (nest_all p.body))
 
 -- ---- files
 
-pub record HasHeader (tokens : List Token) : Type 0 where
-  pub type : HasText tokens 0 (codes "int")
-  pub name : HasText tokens 1 (codes "main")
-  pub opens : HasMark tokens 2 OpenParenthesis
-  pub empty : HasText tokens 3 (codes "void")
-  pub closes : HasMark tokens 4 CloseParenthesis
-  pub body : HasMark tokens 5 OpenBrace
-
--- The tokens spell the program. There are at most 2,000,000 tokens and 200,000 numbered statements, the closing brace among them.
+-- The tokens spell the program. Its numbered statements are at most 200,000, the closing brace among them.
 pub record Spells (tokens : List Token) (p : Program) : Type 0 where
-  pub few_tokens : length tokens ≤ 2000000
-  pub header : HasHeader tokens
-  pub declarations : DeclaresAll [] tokens 6 p.variables
-  pub body : HasBody p.variables tokens (6 + 3 * length p.variables) p.body p.spans
-  pub few_statements : length p.body + 1 ≤ 200000
-
--- the bytes of a file spell the program
-abbrev pub IsSource : List ℕ → Program → Type 0
-IsSource bytes p = (tokens : List Token) × AreTokensOf bytes tokens × Spells tokens p
+  pub words : Fits p.variables (spell_program p) tokens p.spans
+  pub names : AreFresh [] p.variables
+  pub stmts : AreStatements p.body
+  pub nesting : nest_program p ≤ 200
+  pub few : suc (count_all p.body) ≤ 200000

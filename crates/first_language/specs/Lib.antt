@@ -1,5 +1,4 @@
 pub mod Exactness
-pub mod Tokens
-pub mod Runs
 pub mod Language
 pub mod Reading
+pub mod Views

@@ -1,29 +1,35 @@
-//! Reads the first language: one function `int main(void)` of `int` variables. Bytes are cut into tokens, and tokens are read as a
-//! program; both are exact, so that a file is refused only where no program is spelled by its bytes.
+//! Reads the first language from tokens: one function `int main(void)` of `int` variables, whose statements nest. What is read is
+//! exact: tokens are refused only where they spell no program.
 #![tactic(auto)]
 
-ghost use Rattle.std.specs.Prelude.{◌^◌, ◌-◌, ◌<◌, length, IfOk, IfSome};
-ghost use Rattle.c_prog.specs.Meaning.{IsShaped};
+ghost use Rattle.std.specs.Prelude.{◌≤◌, length, option_map, IfOk, IfSome};
+ghost use Rattle.c_prog.specs.SourceViews.{program_of, IsShaped};
 ghost use Rattle.first_language.specs.Exactness.{Exactly};
-ghost use Rattle.first_language.specs.Language.{IsSource};
+ghost use Rattle.first_language.specs.Language.{Spells};
 
+use c_prog::token::Token;
 use c_prog::tree::Program;
 use std::alloc::{AllocError, Global};
 
-pub mod lexer;
-pub mod parser;
-pub mod token;
-pub mod words;
+mod parser;
+mod statements;
+mod sums;
+#[cfg(test)]
+mod tests;
+mod words;
 
-/// The program that the bytes of a file spell, if they spell one. The time is linear in the file.
-pub fn read(alloc: Global, bytes: &[u8]) -> Result<Option<Program>, AllocError>
-    requires { length bytes.now < 2 ^ 32 - 1 }
-    ensures exact { IfOk result (Exactly (IsSource bytes.now)) }
-    ensures shaped { IfOk result (λ found. IfSome found IsShaped) }
+/// The program that tokens spell, if they spell one:
+///
+/// - `int main(void) {`, declarations `int name;` of different names, statements, and `}` as the last token;
+/// - a statement is an assignment, a `return`, an `if` with or without `else`, a `while` or a block; an `else` belongs to the nearest `if`;
+/// - a test compares two sums, and a sum adds and subtracts declared names and constants of type int;
+/// - there are at most 200,000 numbered statements, the closing brace among them, and nothing nests more than 200 deep.
+///
+/// `Spells` has the rules. Time and memory are linear in the tokens, and the recursion is no deeper than the nesting that is allowed.
+pub fn parse(alloc: Global, tokens: &[Token]) -> Result<Option<Program>, AllocError>
+    requires { length tokens.now ≤ 2000000 }
+    ensures exact { IfOk result (λ found. Exactly (Spells tokens.now) (option_map program_of found)) }
+    ensures shaped { IfOk result (λ found. IfSome found (λ p. IsShaped (program_of p))) }
 {
-    let tokens = lexer::cut(alloc, bytes)?;
-    match tokens {
-        None => Ok(None),
-        Some(tokens) => parser::parse(alloc, tokens.as_slice()),
-    }
+    parser::program_at(alloc, tokens)
 }

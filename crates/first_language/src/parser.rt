@@ -1,251 +1,172 @@
-ghost use Rattle.std.specs.Prelude.{◌≡◌, ℕ, ◌+◌, ◌-◌, ◌*◌, ◌<◌, ◌≤◌, ◌^◌, ◌↔◌, [], ◌∷◌, ◌++◌, length, vec_len, IsTrue, IfOk, MatchOption, slice_get};
+//! Whole programs.
+ghost use Rattle.std.specs.Prelude.{◌≡◌, ◌<◌, ◌≤◌, ◌*◌, ◌+◌, ◌-◌, ◌^◌, [], suc, length, option_copied, option_map, IfOk, IfSome};
 ghost use Rattle.indexmap.specs.IndexSet.{index_set_len};
-ghost use Rattle.first_language.specs.Exactness.{Exactly};
-ghost use Rattle.first_language.specs.Language.{HasHeader, HasStmt, HasSpan, HasMark, HasBody, DeclaresAll, Spells, width};
-ghost use Rattle.first_language.specs.Reading.{IsDeclared, AreDeclared, IsBody};
+ghost use Rattle.c_prog.specs.SourceViews.{program_of, trees_of};
+ghost use Rattle.first_language.specs.Reading.{behind_main, header_at, declared_at, declarations_at, is_end, main_at, program_at};
 
-use crate::token::{Punctuator, Token};
-use crate::words::{atom_at, has_mark, has_text, names_keyword, number_at, text_at, variable_at};
+use crate::statements::body_at;
+use crate::words::{behind_keyword, behind_punctuator, name_at, push_place};
 use c_prog::name::Name;
 use c_prog::number::Span;
+use c_prog::token::{Keyword, Punctuator, Token};
 use c_prog::tree::{Program, Stmt};
 use indexmap::IndexSet;
 use sqlite_items::Items;
 use std::alloc::{AllocError, Global};
 
-/// The most tokens of a file.
-pub const MOST_TOKENS: usize = 2_000_000;
-
 /// The most numbered statements of a file, the closing brace among them.
 pub const MOST_STATEMENTS: usize = 200_000;
 
-fn has_header(tokens: &[Token]) -> bool
-    ensures { IsTrue result ↔ HasHeader tokens.now }
-{
-    if !has_text(tokens, 0, b"int") {
-        return false;
-    }
-    if !has_text(tokens, 1, b"main") {
-        return false;
-    }
-    if !has_mark(tokens, 2, Punctuator::OpenParenthesis) {
-        return false;
-    }
-    if !has_text(tokens, 3, b"void") {
-        return false;
-    }
-    if !has_mark(tokens, 4, Punctuator::CloseParenthesis) {
-        return false;
-    }
-    has_mark(tokens, 5, Punctuator::OpenBrace)
-}
+/// How deep a program may nest, below the definition of `main` and its block.
+pub const MOST_NESTING: usize = 198;
 
-// The name that is declared by `int name ;` at an index.
-fn declared_at(tokens: &[Token], at: usize) -> Option<&Name>
-    requires { at < 2 ^ 62 }
-    ensures { MatchOption result ((name : _) → IsDeclared tokens.now at name → ⊥) (λ name. IsDeclared tokens.now at name.now) }
+// The tokens behind the name `main`.
+#[tactic(auto, unfolding(crate::specs::Reading::behind_main))]
+fn behind_main(tokens: &[Token]) -> Option<&[Token]>
+    ensures found { option_copied result ≡ behind_main tokens.now }
+    ensures shorter { IfSome result (λ rest. length rest.now < length tokens.now) }
 {
-    if !has_mark(tokens, at + 2, Punctuator::Semicolon) {
-        return None;
-    }
-    match text_at(tokens, at + 1) {
+    match name_at(tokens) {
         None => None,
-        Some(name) => {
-            if names_keyword(name.as_bytes()) {
-                None
+        Some((name, rest)) => {
+            if name.as_bytes() == b"main".as_slice() {
+                Some(rest)
             } else {
-                Some(name)
+                None
             }
         }
     }
 }
 
-// The declared names in order, the same names for look-ups, and the index behind the declarations.
-#[derive(Drop)]
-struct Declared {
-    names: Vec<Name>,
-    index: IndexSet<Name>,
-    next: usize,
+// The tokens behind `int main(void) {`.
+#[tactic(auto, unfolding(crate::specs::Reading::header_at))]
+fn header_at(tokens: &[Token]) -> Option<&[Token]>
+    ensures found { option_copied result ≡ header_at tokens.now }
+    ensures shorter { IfSome result (λ rest. length rest.now ≤ length tokens.now) }
+{
+    let Some(name) = behind_keyword(tokens, Keyword::Int) else {
+        return None;
+    };
+    let Some(open) = behind_main(name) else {
+        return None;
+    };
+    let Some(empty) = behind_punctuator(open, Punctuator::OpenParenthesis) else {
+        return None;
+    };
+    let Some(close) = behind_keyword(empty, Keyword::Void) else {
+        return None;
+    };
+    let Some(body) = behind_punctuator(close, Punctuator::CloseParenthesis) else {
+        return None;
+    };
+    behind_punctuator(body, Punctuator::OpenBrace)
 }
 
-fn declarations(alloc: Global, tokens: &[Token]) -> Result<Option<Declared>, AllocError>
-    requires { length tokens.now ≤ 2000000 }
-    ensures { IfOk result (λ found. MatchOption found
-        ((all : _) → DeclaresAll [] tokens.now 6 all → ⊥)
-        (λ d. AreDeclared tokens.now d.names.items d.index.keys d.next)) }
+// A name with its semicolon, and the tokens behind them.
+#[tactic(auto, unfolding(crate::specs::Reading::declared_at))]
+fn declared_at(tokens: &[Token]) -> Option<(&Name, &[Token])>
+    ensures found { option_map (λ f. (f.0.now, f.1.now)) result ≡ declared_at tokens.now }
+    ensures shorter { IfSome result (λ f. length f.1.now < length tokens.now) }
+{
+    let Some((name, behind)) = name_at(tokens) else {
+        return None;
+    };
+    match behind_punctuator(behind, Punctuator::Semicolon) {
+        None => None,
+        Some(rest) => Some((name, rest)),
+    }
+}
+
+// The declared names in order, the same names for look-ups, and the tokens behind the declarations.
+#[derive(Drop)]
+struct Declared<'a> {
+    names: Vec<Name>,
+    index: IndexSet<Name>,
+    rest: &'a [Token],
+}
+
+fn declarations_at<'a>(
+    alloc: Global,
+    tokens: &'a [Token],
+) -> Result<Option<Declared<'a>>, AllocError>
+    ensures found { IfOk result (λ found. option_map (λ d. (d.names.items, d.rest.now)) found ≡ declarations_at (suc (length tokens.now)) [] tokens.now) }
+    ensures keyed { IfOk result (λ found. IfSome found (λ d. d.index.keys ≡ d.names.items)) }
+    ensures few { IfOk result (λ found. IfSome found (λ d. length d.names.items ≤ length tokens.now)) }
 {
     let mut names = Vec::new(alloc);
     let mut index = IndexSet::new(alloc);
-    let mut next = 6;
-    'declaring: while has_text(tokens, next, b"int") {
-        match declared_at(tokens, next) {
+    let mut rest = tokens;
+    'declaring: while let Some(behind) = behind_keyword(rest, Keyword::Int) {
+        match declared_at(behind) {
             None => return Ok(None),
-            Some(name) => {
+            Some((name, next)) => {
                 let (_, added) = index.insert_full(name.duplicate(alloc)?)?;
                 if !added {
                     return Ok(None);
                 }
                 names.push(name.duplicate(alloc)?)?;
-                next += 3;
+                rest = next;
             }
         }
     }
-    Ok(Some(Declared { names, index, next }))
+    Ok(Some(Declared { names, index, rest }))
 }
 
-fn return_at(tokens: &[Token], at: usize, variables: &IndexSet<Name>) -> Option<Stmt>
-    requires small { at < 2 ^ 62 }
-    requires few { index_set_len variables.now < 2 ^ 32 - 1 }
-    ensures { MatchOption result
-        ((atom : _) → HasStmt variables.now.keys tokens.now at (Stmt.Return atom) → ⊥)
-        (λ s. HasStmt variables.now.keys tokens.now at s) }
+fn is_end(tokens: &[Token]) -> bool
+    ensures { result ≡ is_end tokens.now }
 {
-    if !has_text(tokens, at, b"return") {
-        return None;
-    }
-    if !has_mark(tokens, at + 2, Punctuator::Semicolon) {
-        return None;
-    }
-    match atom_at(tokens, at + 1, variables) {
-        None => None,
-        Some(atom) => Some(Stmt::Return(atom)),
+    match tokens.first() {
+        None => true,
+        Some(_) => false,
     }
 }
 
-fn assignment_at(tokens: &[Token], at: usize, variables: &IndexSet<Name>) -> Option<Stmt>
-    requires small { at < 2 ^ 62 }
-    requires few { index_set_len variables.now < 2 ^ 32 - 1 }
-    ensures { MatchOption result
-        ((target : _) (value : ℕ) → HasStmt variables.now.keys tokens.now at (Stmt.Assign target value) → ⊥)
-        (λ s. HasStmt variables.now.keys tokens.now at s) }
-{
-    if !has_mark(tokens, at + 1, Punctuator::Assign) {
-        return None;
-    }
-    if !has_mark(tokens, at + 3, Punctuator::Semicolon) {
-        return None;
-    }
-    match variable_at(tokens, at, variables) {
-        None => None,
-        Some(target) => match number_at(tokens, at + 2) {
-            None => None,
-            Some(value) => Some(Stmt::Assign { target, value }),
-        },
-    }
-}
-
-// The statement that begins at an index.
-fn statement_at(tokens: &[Token], at: usize, variables: &IndexSet<Name>) -> Option<Stmt>
-    requires small { at < 2 ^ 62 }
-    requires few { index_set_len variables.now < 2 ^ 32 - 1 }
-    ensures { MatchOption result
-        ((s : _) → HasStmt variables.now.keys tokens.now at s → ⊥)
-        (λ s. HasStmt variables.now.keys tokens.now at s) }
-{
-    match return_at(tokens, at, variables) {
-        Some(stmt) => Some(stmt),
-        None => assignment_at(tokens, at, variables),
-    }
-}
-
-fn width_of(stmt: Stmt) -> usize
-    ensures value { result ≡ width stmt }
-    ensures some { 0 < result }
-    ensures few { result ≤ 4 }
-{
-    match stmt {
-        Stmt::Assign {
-            target: _,
-            value: _,
-        } => 4,
-        Stmt::Return(_) => 3,
-    }
-}
-
-// The place of the token at an index.
-fn span_at(tokens: &[Token], at: usize) -> Option<Span>
-    ensures { MatchOption result ((span : _) → HasSpan tokens.now at span → ⊥) (λ span. HasSpan tokens.now at span) }
-{
-    match tokens.get(at) {
-        None => None,
-        Some(token) => Some(token.span),
-    }
-}
-
-// The statements of a body, and their places with that of the closing brace.
-#[derive(Drop)]
-struct Body {
-    statements: Vec<Stmt>,
-    spans: Vec<Span>,
-}
-
-fn body_from(
+// The statements to the end of the file, and the places of all that are numbered.
+#[tactic(auto, unfolding(crate::specs::Reading::main_at))]
+fn main_at(
     alloc: Global,
     tokens: &[Token],
-    start: usize,
     variables: &IndexSet<Name>,
-) -> Result<Option<Body>, AllocError>
-    requires few_tokens { length tokens.now ≤ 2000000 }
-    requires small { start ≤ 2000009 }
-    requires few { index_set_len variables.now < 2 ^ 32 - 1 }
-    ensures { IfOk result (λ found. MatchOption found
-        ((all : _) (places : _) → HasBody variables.now.keys tokens.now start all places → length all + 1 ≤ 200000 → ⊥)
-        (λ b. IsBody variables.now.keys tokens.now start b.statements.items b.spans.items)) }
+    budget: usize,
+) -> Result<Option<(Items<Stmt>, Vec<Span>)>, AllocError>
+    requires { index_set_len variables.now < 2 ^ 32 - 1 }
+    ensures { IfOk result (λ found. option_map (λ f. (trees_of f.0, f.1.items)) found ≡ main_at variables.now.keys budget tokens.now) }
 {
-    let mut statements = Vec::new(alloc);
     let mut spans = Vec::new(alloc);
-    let mut next = start;
-    'reading: while !has_mark(tokens, next, Punctuator::CloseBrace) {
-        match statement_at(tokens, next, variables) {
-            None => return Ok(None),
-            Some(stmt) => match span_at(tokens, next) {
-                None => return Ok(None),
-                Some(span) => {
-                    if statements.len() + 2 > MOST_STATEMENTS {
-                        return Ok(None);
-                    }
-                    statements.push(stmt)?;
-                    spans.push(span)?;
-                    next += width_of(stmt);
-                }
-            },
-        }
-    }
-    if next + 1 != tokens.len() {
+    let Some((body, close)) = body_at(alloc, tokens, variables, budget, &mut spans)? else {
+        return Ok(None);
+    };
+    let Some(rest) = behind_punctuator(close, Punctuator::CloseBrace) else {
+        return Ok(None);
+    };
+    if !is_end(rest) {
         return Ok(None);
     }
-    match span_at(tokens, next) {
-        None => Ok(None),
-        Some(span) => {
-            spans.push(span)?;
-            Ok(Some(Body { statements, spans }))
-        }
+    if spans.len() >= MOST_STATEMENTS {
+        return Ok(None);
     }
+    push_place(&mut spans, close)?;
+    Ok(Some((body, spans)))
 }
 
 /// The program that tokens spell, if they spell one.
-pub fn parse(alloc: Global, tokens: &[Token]) -> Result<Option<Program>, AllocError>
-    ensures { IfOk result (Exactly (Spells tokens.now)) }
+#[tactic(auto, unfolding(crate::specs::Reading::program_at))]
+pub fn program_at(alloc: Global, tokens: &[Token]) -> Result<Option<Program>, AllocError>
+    requires { length tokens.now ≤ 2000000 }
+    ensures { IfOk result (λ found. option_map program_of found ≡ program_at tokens.now) }
 {
-    if tokens.len() > MOST_TOKENS {
+    let Some(inner) = header_at(tokens) else {
         return Ok(None);
-    }
-    if !has_header(tokens) {
+    };
+    let Some(declared) = declarations_at(alloc, inner)? else {
         return Ok(None);
-    }
-    let declared = declarations(alloc, tokens)?;
-    match declared {
+    };
+    match main_at(alloc, declared.rest, &declared.index, MOST_NESTING)? {
         None => Ok(None),
-        Some(declared) => {
-            let body = body_from(alloc, tokens, declared.next, &declared.index)?;
-            match body {
-                None => Ok(None),
-                Some(body) => Ok(Some(Program {
-                    variables: Items::from_vec(declared.names),
-                    body: Items::from_vec(body.statements),
-                    spans: Items::from_vec(body.spans),
-                })),
-            }
-        }
+        Some((body, spans)) => Ok(Some(Program {
+            variables: Items::from_vec(declared.names),
+            body,
+            spans: Items::from_vec(spans),
+        })),
     }
 }

@@ -1,173 +1,240 @@
-//! What stands at an index of a token list.
-ghost use Rattle.std.specs.Prelude.{◌≡◌, ℕ, ◌+◌, ◌-◌, ◌<◌, ◌≤◌, ◌^◌, ◌↔◌, length, IsTrue, MatchOption, bytes_eq};
-ghost use Rattle.std.specs.List.{list_any};
+//! What stands at the front of some tokens.
+ghost use Rattle.std.specs.Prelude.{◌≡◌, ◌<◌, ◌-◌, ◌^◌, length, option_copied, option_map, ◌++◌, IfSome, OnOk};
 ghost use Rattle.indexmap.specs.IndexSet.{index_set_len};
-ghost use Rattle.first_language.specs.Language.{HasMark, HasText, HasNumber, HasVariable, HasAtom, HasSpan, Writes, is_keyword, has_leading_zero};
+ghost use Rattle.first_language.specs.Reading.{behind_key, behind_mark, is_key, is_mark, text_of, variable_of, atom_of, sign_of, sign_of_mark, relation_of, relation_of_mark, is_int, is_plain, number_of};
+ghost use Rattle.first_language.specs.Reading.{name_at, target_at, atom_at, sign_at, relation_at, here};
 
-use crate::token::{Punctuator, Token, Word};
 use c_prog::name::Name;
 use c_prog::number::{BaseId, Span};
-use c_prog::tree::Atom;
+use c_prog::token::{IntegerConstant, Keyword, Length, Punctuator, Token, Word};
+use c_prog::tree::{Atom, Rel, Sign};
 use indexmap::IndexSet;
+use std::alloc::AllocError;
 
-/// C11 6.4.1.
-const KEYWORDS: [&[u8]; 44] = [
-    b"auto",
-    b"break",
-    b"case",
-    b"char",
-    b"const",
-    b"continue",
-    b"default",
-    b"do",
-    b"double",
-    b"else",
-    b"enum",
-    b"extern",
-    b"float",
-    b"for",
-    b"goto",
-    b"if",
-    b"inline",
-    b"int",
-    b"long",
-    b"register",
-    b"restrict",
-    b"return",
-    b"short",
-    b"signed",
-    b"sizeof",
-    b"static",
-    b"struct",
-    b"switch",
-    b"typedef",
-    b"union",
-    b"unsigned",
-    b"void",
-    b"volatile",
-    b"while",
-    b"_Alignas",
-    b"_Alignof",
-    b"_Atomic",
-    b"_Bool",
-    b"_Complex",
-    b"_Generic",
-    b"_Imaginary",
-    b"_Noreturn",
-    b"_Static_assert",
-    b"_Thread_local",
-];
-
-fn is_one_of(text: &[u8], words: &[&[u8]]) -> bool
-    ensures { result ≡ list_any (λ word. bytes_eq text.now word.now) words.now }
+fn is_keyword(word: &Word, keyword: Keyword) -> bool
+    ensures { result ≡ is_key keyword word.now }
 {
-    words.iter().any(|word| text == *word)
-}
-
-pub fn names_keyword(text: &[u8]) -> bool
-    ensures { result ≡ is_keyword text.now }
-{
-    is_one_of(text, &KEYWORDS)
-}
-
-pub fn has_mark(tokens: &[Token], at: usize, mark: Punctuator) -> bool
-    ensures { IsTrue result ↔ HasMark tokens.now at mark }
-{
-    match tokens.get(at) {
-        None => false,
-        Some(token) => match &token.word {
-            Word::Identifier(_) => false,
-            Word::Digits(_) => false,
-            Word::Punctuator(found) => *found == mark,
-        },
+    match word {
+        Word::Keyword(found) => *found == keyword,
+        _ => false,
     }
 }
 
-/// The identifier at an index.
-pub fn text_at(tokens: &[Token], at: usize) -> Option<&Name>
-    ensures { MatchOption result ((text : _) → HasText tokens.now at text → ⊥) (λ text. HasText tokens.now at text.now) }
+fn is_punctuator(word: &Word, punctuator: Punctuator) -> bool
+    ensures { result ≡ is_mark punctuator word.now }
 {
-    match tokens.get(at) {
+    match word {
+        Word::Punctuator(found) => *found == punctuator,
+        _ => false,
+    }
+}
+
+/// The tokens behind a first token that is this keyword.
+#[tactic(auto, unfolding(crate::specs::Reading::behind_key))]
+pub fn behind_keyword(tokens: &[Token], keyword: Keyword) -> Option<&[Token]>
+    ensures found { option_copied result ≡ behind_key keyword tokens.now }
+    ensures shorter { IfSome result (λ rest. length rest.now < length tokens.now) }
+{
+    match tokens.split_first() {
         None => None,
-        Some(token) => match &token.word {
-            Word::Identifier(text) => Some(text),
-            Word::Digits(_) => None,
-            Word::Punctuator(_) => None,
-        },
-    }
-}
-
-pub fn has_text(tokens: &[Token], at: usize, text: &[u8]) -> bool
-    ensures { IsTrue result ↔ HasText tokens.now at text.now }
-{
-    match text_at(tokens, at) {
-        None => false,
-        Some(found) => found.as_bytes() == text,
-    }
-}
-
-fn begins_with_zero(digits: &[u8]) -> bool
-    ensures { result ≡ has_leading_zero digits.now }
-{
-    digits.len() > 1 && digits[0] == b'0'
-}
-
-// The number that digits write, where it is a value of int.
-fn number_of(digits: &[u8]) -> Option<u32>
-    ensures { MatchOption result ((n : ℕ) → Writes digits.now n → ⊥) (λ n. Writes digits.now n) }
-{
-    if begins_with_zero(digits) {
-        return None;
-    }
-    let mut value: u32 = 0;
-    for digit in digits {
-        let next = u64::from(value) * 10 + u64::from(digit.saturating_sub(b'0'));
-        if next > 2147483647 {
-            return None;
+        Some((first, rest)) => {
+            if is_keyword(&first.word, keyword) {
+                Some(rest)
+            } else {
+                None
+            }
         }
-        value = next as u32;
     }
-    Some(value)
 }
 
-/// The number at an index.
-pub fn number_at(tokens: &[Token], at: usize) -> Option<u32>
-    ensures { MatchOption result ((n : ℕ) → HasNumber tokens.now at n → ⊥) (λ n. HasNumber tokens.now at n) }
+/// The tokens behind a first token that is this punctuator.
+#[tactic(auto, unfolding(crate::specs::Reading::behind_mark))]
+pub fn behind_punctuator(tokens: &[Token], punctuator: Punctuator) -> Option<&[Token]>
+    ensures found { option_copied result ≡ behind_mark punctuator tokens.now }
+    ensures shorter { IfSome result (λ rest. length rest.now < length tokens.now) }
 {
-    match tokens.get(at) {
+    match tokens.split_first() {
         None => None,
-        Some(token) => match &token.word {
-            Word::Identifier(_) => None,
-            Word::Digits(digits) => number_of(digits.as_bytes()),
-            Word::Punctuator(_) => None,
+        Some((first, rest)) => {
+            if is_punctuator(&first.word, punctuator) {
+                Some(rest)
+            } else {
+                None
+            }
+        }
+    }
+}
+
+/// A first token that is an identifier, and the tokens behind it.
+#[tactic(auto, unfolding(crate::specs::Reading::name_at))]
+pub fn name_at(tokens: &[Token]) -> Option<(&Name, &[Token])>
+    ensures found { option_map (λ f. (f.0.now, f.1.now)) result ≡ name_at tokens.now }
+    ensures shorter { IfSome result (λ f. length f.1.now < length tokens.now) }
+{
+    match tokens.split_first() {
+        None => None,
+        Some((first, rest)) => match &first.word {
+            Word::Identifier(name) => Some((name, rest)),
+            _ => None,
         },
     }
 }
 
-/// The variable whose name stands at an index.
-pub fn variable_at(tokens: &[Token], at: usize, variables: &IndexSet<Name>) -> Option<BaseId>
+fn variable_of(word: &Word, variables: &IndexSet<Name>) -> Option<BaseId>
     requires { index_set_len variables.now < 2 ^ 32 - 1 }
-    ensures { MatchOption result ((base : _) → HasVariable variables.now.keys tokens.now at base → ⊥) (λ base. HasVariable variables.now.keys tokens.now at base) }
+    ensures { result ≡ variable_of variables.now.keys word.now }
 {
-    match text_at(tokens, at) {
-        None => None,
-        Some(text) => match variables.get_index_of(text) {
+    match word {
+        Word::Identifier(name) => match variables.get_index_of(name) {
             None => None,
             Some(index) => Some(BaseId(index as u32 + 1)),
         },
+        _ => None,
     }
 }
 
-/// The variable or number at an index.
-pub fn atom_at(tokens: &[Token], at: usize, variables: &IndexSet<Name>) -> Option<Atom>
+/// A first token that is the name of a variable, and the tokens behind it.
+#[tactic(auto, unfolding(crate::specs::Reading::target_at))]
+pub fn target_at<'a>(
+    tokens: &'a [Token],
+    variables: &IndexSet<Name>,
+) -> Option<(BaseId, &'a [Token])>
     requires { index_set_len variables.now < 2 ^ 32 - 1 }
-    ensures { MatchOption result ((atom : _) → HasAtom variables.now.keys tokens.now at atom → ⊥) (λ atom. HasAtom variables.now.keys tokens.now at atom) }
+    ensures found { option_map (λ f. (f.0, f.1.now)) result ≡ target_at variables.now.keys tokens.now }
+    ensures shorter { IfSome result (λ f. length f.1.now < length tokens.now) }
 {
-    match variable_at(tokens, at, variables) {
-        Some(base) => Some(Atom::Variable(base)),
-        None => match number_at(tokens, at) {
+    match tokens.split_first() {
+        None => None,
+        Some((first, rest)) => match variable_of(&first.word, variables) {
+            None => None,
+            Some(base) => Some((base, rest)),
+        },
+    }
+}
+
+fn is_plain(length: Length) -> bool
+    ensures { result ≡ is_plain length }
+{
+    match length {
+        Length::Plain => true,
+        Length::Long => false,
+        Length::LongLong => false,
+    }
+}
+
+// Whether a constant is of type int (C11 6.4.4.1).
+fn is_int(constant: IntegerConstant) -> bool
+    ensures { result ≡ is_int constant }
+{
+    !constant.unsigned && is_plain(constant.length) && constant.value <= 2147483647
+}
+
+fn number_of(constant: IntegerConstant) -> Option<u32>
+    ensures { result ≡ number_of constant }
+{
+    if is_int(constant) {
+        Some(constant.value as u32)
+    } else {
+        None
+    }
+}
+
+fn atom_of(word: &Word, variables: &IndexSet<Name>) -> Option<Atom>
+    requires { index_set_len variables.now < 2 ^ 32 - 1 }
+    ensures { result ≡ atom_of variables.now.keys word.now }
+{
+    match word {
+        Word::Identifier(_) => match variable_of(word, variables) {
+            None => None,
+            Some(base) => Some(Atom::Variable(base)),
+        },
+        Word::Integer(constant) => match number_of(*constant) {
             None => None,
             Some(number) => Some(Atom::Number(number)),
         },
+        _ => None,
+    }
+}
+
+/// A first token that is a variable or a number, and the tokens behind it.
+#[tactic(auto, unfolding(crate::specs::Reading::atom_at))]
+pub fn atom_at<'a>(tokens: &'a [Token], variables: &IndexSet<Name>) -> Option<(Atom, &'a [Token])>
+    requires { index_set_len variables.now < 2 ^ 32 - 1 }
+    ensures found { option_map (λ f. (f.0, f.1.now)) result ≡ atom_at variables.now.keys tokens.now }
+    ensures shorter { IfSome result (λ f. length f.1.now < length tokens.now) }
+{
+    match tokens.split_first() {
+        None => None,
+        Some((first, rest)) => match atom_of(&first.word, variables) {
+            None => None,
+            Some(atom) => Some((atom, rest)),
+        },
+    }
+}
+
+fn sign_of(word: &Word) -> Option<Sign>
+    ensures { result ≡ sign_of word.now }
+{
+    match word {
+        Word::Punctuator(Punctuator::Plus) => Some(Sign::Plus),
+        Word::Punctuator(Punctuator::Minus) => Some(Sign::Minus),
+        _ => None,
+    }
+}
+
+/// A first token that is a sign, and the tokens behind it.
+#[tactic(auto, unfolding(crate::specs::Reading::sign_at))]
+pub fn sign_at(tokens: &[Token]) -> Option<(Sign, &[Token])>
+    ensures found { option_map (λ f. (f.0, f.1.now)) result ≡ sign_at tokens.now }
+    ensures shorter { IfSome result (λ f. length f.1.now < length tokens.now) }
+{
+    match tokens.split_first() {
+        None => None,
+        Some((first, rest)) => match sign_of(&first.word) {
+            None => None,
+            Some(sign) => Some((sign, rest)),
+        },
+    }
+}
+
+fn relation_of(word: &Word) -> Option<Rel>
+    ensures { result ≡ relation_of word.now }
+{
+    match word {
+        Word::Punctuator(Punctuator::Less) => Some(Rel::Lt),
+        Word::Punctuator(Punctuator::LessEqual) => Some(Rel::Le),
+        Word::Punctuator(Punctuator::Greater) => Some(Rel::Gt),
+        Word::Punctuator(Punctuator::GreaterEqual) => Some(Rel::Ge),
+        Word::Punctuator(Punctuator::Equal) => Some(Rel::Eq),
+        Word::Punctuator(Punctuator::NotEqual) => Some(Rel::Ne),
+        _ => None,
+    }
+}
+
+/// A first token that compares, and the tokens behind it.
+#[tactic(auto, unfolding(crate::specs::Reading::relation_at))]
+pub fn relation_at(tokens: &[Token]) -> Option<(Rel, &[Token])>
+    ensures found { option_map (λ f. (f.0, f.1.now)) result ≡ relation_at tokens.now }
+    ensures shorter { IfSome result (λ f. length f.1.now < length tokens.now) }
+{
+    match tokens.split_first() {
+        None => None,
+        Some((first, rest)) => match relation_of(&first.word) {
+            None => None,
+            Some(relation) => Some((relation, rest)),
+        },
+    }
+}
+
+/// Notes the place of a first token.
+pub fn push_place(spans: &mut Vec<Span>, tokens: &[Token]) -> Result<(), AllocError>
+    ensures { OnOk result (spans.new.items ≡ spans.old.items ++ here tokens.now) }
+{
+    match tokens.first() {
+        None => Ok(()),
+        Some(token) => {
+            spans.push(token.span)?;
+            Ok(())
+        }
     }
 }

@@ -1,0 +1,173 @@
+use crate::parse;
+use c_prog::name::Name;
+use c_prog::number::Span;
+use c_prog::token::{IntegerConstant, Keyword, Length, Punctuator, Radix, Token, Word};
+use c_prog::tree::{Program, Stmt};
+use std::alloc::{AllocError, Global};
+use std::test::Fail;
+
+fn constant(value: u128, unsigned: bool) -> Word {
+    Word::Integer(IntegerConstant {
+        value,
+        radix: Radix::Decimal,
+        unsigned,
+        length: Length::Plain,
+    })
+}
+
+fn punctuator_of(text: &str) -> Option<Punctuator> {
+    match text {
+        "(" => Some(Punctuator::OpenParenthesis),
+        ")" => Some(Punctuator::CloseParenthesis),
+        "{" => Some(Punctuator::OpenBrace),
+        "}" => Some(Punctuator::CloseBrace),
+        ";" => Some(Punctuator::Semicolon),
+        "=" => Some(Punctuator::Assign),
+        "+" => Some(Punctuator::Plus),
+        "-" => Some(Punctuator::Minus),
+        "<" => Some(Punctuator::Less),
+        "!=" => Some(Punctuator::NotEqual),
+        _ => None,
+    }
+}
+
+fn keyword_of(text: &str) -> Option<Keyword> {
+    match text {
+        "int" => Some(Keyword::Int),
+        "void" => Some(Keyword::Void),
+        "if" => Some(Keyword::If),
+        "else" => Some(Keyword::Else),
+        "while" => Some(Keyword::While),
+        "return" => Some(Keyword::Return),
+        _ => None,
+    }
+}
+
+fn word_of(alloc: Global, text: &str) -> Result<Word, AllocError> {
+    if let Some(punctuator) = punctuator_of(text) {
+        return Ok(Word::Punctuator(punctuator));
+    }
+    if let Some(keyword) = keyword_of(text) {
+        return Ok(Word::Keyword(keyword));
+    }
+    match text {
+        "0" => Ok(constant(0, false)),
+        "1" => Ok(constant(1, false)),
+        "1u" => Ok(constant(1, true)),
+        "2147483648" => Ok(constant(2147483648, false)),
+        _ => Ok(Word::Identifier(Name::from_bytes(alloc, text.as_bytes())?)),
+    }
+}
+
+// Adds the words of a text; the column of each is its number.
+fn add(alloc: Global, tokens: &mut Vec<Token>, text: &str) -> Result<(), AllocError> {
+    for word in text.split_whitespace() {
+        let before = u32::try_from(tokens.len()).unwrap_or(0);
+        tokens.push(Token {
+            word: word_of(alloc, word)?,
+            span: Span {
+                line: 1,
+                col: before.wrapping_add(1),
+            },
+        })?;
+    }
+    Ok(())
+}
+
+const HEADER: &str = "int main ( void ) {";
+
+// The program of a body.
+fn read(alloc: Global, body: &str) -> Result<Option<Program>, AllocError> {
+    let mut tokens = Vec::new(alloc);
+    add(alloc, &mut tokens, HEADER)?;
+    add(alloc, &mut tokens, body)?;
+    if tokens.len() > 1_000_000 {
+        return Ok(None);
+    }
+    parse(alloc, tokens.as_slice())
+}
+
+// The program of a text that stands so often between two others.
+fn read_many(
+    alloc: Global,
+    before: &str,
+    text: &str,
+    count: u32,
+    between: &str,
+    after: &str,
+) -> Result<Option<Program>, AllocError> {
+    let mut tokens = Vec::new(alloc);
+    add(alloc, &mut tokens, HEADER)?;
+    add(alloc, &mut tokens, before)?;
+    for _ in 0..count {
+        add(alloc, &mut tokens, text)?;
+    }
+    add(alloc, &mut tokens, between)?;
+    for _ in 0..count {
+        add(alloc, &mut tokens, after)?;
+    }
+    add(alloc, &mut tokens, "}")?;
+    if tokens.len() > 2_000_000 {
+        return Ok(None);
+    }
+    parse(alloc, tokens.as_slice())
+}
+
+#[test]
+fn an_else_belongs_to_the_nearest_if(rt: HostRuntime) -> Result<(), Fail> {
+    let alloc = rt.alloc();
+    let body =
+        "int x ; if ( x < 1 ) if ( 0 != x - 1 ) x = 1 ; else return x + 1 ; { while ( x < 0 ) { } } }";
+    let Some(program) = read(alloc, body)? else {
+        return Err(Fail::from(AllocError));
+    };
+    let mut columns = Vec::new(alloc);
+    for span in program.spans.as_slice() {
+        columns.push(span.col)?;
+    }
+    assert_eq!(rt; columns.as_slice(), [10, 16, 24, 29, 35, 44].as_slice());
+    assert_eq!(rt; program.variables.len(), 1);
+    let alone = match program.body.get(0) {
+        Some(Stmt::If { arms, otherwise }) => arms.len() == 1 && otherwise.is_none(),
+        _ => false,
+    };
+    assert!(rt; alone);
+    Ok(())
+}
+
+#[test]
+fn what_is_no_program_is_refused(rt: HostRuntime) -> Result<(), Fail> {
+    let alloc = rt.alloc();
+    for body in [
+        "return 0 ; } ;",
+        "return 0 ;",
+        "int x ; int x ; return 0 ; }",
+        "x = 1 ; }",
+        "return 1u ; }",
+        "return 2147483648 ; }",
+        "else return 0 ; }",
+        "int x ; if ( x ) x = 1 ; }",
+        "int x ; x = 1 + ; }",
+        "return 0 ; int x ; }",
+    ] {
+        assert!(rt; read(alloc, body)?.is_none(), "{body}");
+    }
+    Ok(())
+}
+
+#[test]
+fn nesting_is_bounded(rt: HostRuntime) -> Result<(), Fail> {
+    let alloc = rt.alloc();
+    assert!(rt; read_many(alloc, "", "{", 198, "", "}")?.is_some());
+    assert!(rt; read_many(alloc, "", "{", 199, "", "}")?.is_none());
+    Ok(())
+}
+
+#[test]
+fn long_sums_and_ladders_are_read(rt: HostRuntime) -> Result<(), Fail> {
+    let alloc = rt.alloc();
+    assert!(rt; read_many(alloc, "return 0", "+ 1", 200_000, ";", "")?.is_some());
+    let ladder = read_many(alloc, "", "if ( 0 < 1 ) { } else", 100_000, "{ }", "")?;
+    assert!(rt; ladder.is_some());
+    Ok(())
+}
