@@ -1,0 +1,5 @@
+//! Cuts the bytes of a file into tokens.
+#![tactic(auto)]
+
+pub mod bytes;
+pub mod state;
