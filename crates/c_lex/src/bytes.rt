@@ -1,5 +1,5 @@
 //! Classes of bytes, and what stands at an index of some bytes.
-ghost use Rattle.std.specs.Prelude.{◌≡◌, ◌≤◌, length, slice_index, take, drop};
+ghost use Rattle.std.specs.Prelude.{◌≡◌, slice_index, take, drop};
 ghost use Rattle.c_lex.specs.Bytes.{is_white, is_digit, is_capital, is_small, is_letter, is_name_start, is_name_byte, is_sign, is_exponent_letter};
 
 /// White space (C11 6.4): space, tab, line feed, vertical tab, form feed, carriage return.
@@ -70,18 +70,16 @@ pub fn byte_at(bytes: &[u8], index: usize) -> u8
     if index < bytes.len() { bytes[index] } else { 0 }
 }
 
-/// The bytes from an index on.
+/// The bytes from an index on; none past the end.
 pub fn behind(bytes: &[u8], index: usize) -> &[u8]
-    requires { index ≤ length bytes.now }
     ensures { result.now ≡ drop index bytes.now }
 {
-    &bytes[index..]
+    if index < bytes.len() { &bytes[index..] } else { &[] }
 }
 
 /// The bytes before an index.
 pub fn before(bytes: &[u8], index: usize) -> &[u8]
-    requires { index ≤ length bytes.now }
     ensures { result.now ≡ take index bytes.now }
 {
-    &bytes[..index]
+    if index < bytes.len() { &bytes[..index] } else { bytes }
 }
