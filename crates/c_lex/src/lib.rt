@@ -4,3 +4,5 @@
 pub mod bytes;
 pub mod number;
 pub mod state;
+pub mod text;
+pub mod word;
