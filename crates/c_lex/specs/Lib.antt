@@ -3,3 +3,7 @@ pub mod Pieces
 pub mod Numbers
 pub mod Texts
 pub mod Words
+pub mod Meanings
+pub mod Tokens
+pub mod Lexing
+pub mod Cursors

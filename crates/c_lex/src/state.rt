@@ -126,8 +126,8 @@ fn begin_with_sign(context: Context, fresh: bool, byte: u8) -> State
     }
 }
 
-// What a byte begins.
-fn begin_with(context: Context, fresh: bool, byte: u8) -> State
+/// What a byte begins; it may always stand as a piece.
+pub fn begin_with(context: Context, fresh: bool, byte: u8) -> State
     ensures { result ≡ begin context fresh byte }
 {
     if is_white_byte(byte) {
