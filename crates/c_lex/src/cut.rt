@@ -171,8 +171,8 @@ impl Cursor {
 
     // Behind an annotation's inside and what closes it, in a file of so many bytes.
     fn outside(&self, size: usize) -> Cursor
-        requires next { self.now.end + 2 < 2 ^ 64 }
-        requires col { self.now.at.col + 2 < 2 ^ 32 }
+        requires next { self.now.end + length (closing self.now.context) < 2 ^ 64 }
+        requires col { self.now.at.col + length (closing self.now.context) < 2 ^ 32 }
         ensures { result ≡ outside_cursor self.now size }
     {
         let closing = closing_length(self.context);
@@ -213,8 +213,8 @@ fn step_over(cursor: &Cursor, state: State, piece: &[u8], meaning: Meaning) -> S
 
 // What comes where the text is used up: the end of the file, or of an annotation.
 fn step_behind(cursor: &Cursor, size: usize) -> Step
-    requires next { cursor.now.end + 2 < 2 ^ 64 }
-    requires col { cursor.now.at.col + 2 < 2 ^ 32 }
+    requires next { cursor.now.end + length (closing cursor.now.context) < 2 ^ 64 }
+    requires col { cursor.now.at.col + length (closing cursor.now.context) < 2 ^ 32 }
     ensures { result ≡ step_at_end cursor.now size }
 {
     if cursor.context.is_in_annotation() {

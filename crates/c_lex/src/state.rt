@@ -1,5 +1,5 @@
 //! How a piece goes on: what has been read of it so far, and what a further byte makes of that.
-ghost use Rattle.std.specs.Prelude.{◌≡◌};
+ghost use Rattle.std.specs.Prelude.{◌≡◌, IsTrue};
 ghost use Rattle.c_lex.specs.Pieces.{is_inside, step, accepts, accepts_mark, begin, begin_mark, begin_hash, begin_sign, mark_goes, one, two, dot_goes, slash_goes, minus_goes, equal_goes, less_equal_goes, number_goes, exponent_goes, comment_goes, byte_of_quote, quoted_goes, when};
 
 use crate::bytes::{begins_exponent, begins_name, continues_name, is_digit_byte, is_letter_byte, is_sign_byte, is_white_byte};
@@ -68,8 +68,9 @@ impl Context {
 
 // The punctuator that a byte begins.
 #[tactic(auto, unfolding(crate::specs::Pieces::begin_mark))]
-fn begin_with_mark(byte: u8) -> State
-    ensures { result ≡ begin_mark byte }
+fn begin_with_mark(context: Context, byte: u8) -> State
+    ensures value { result ≡ begin_mark byte }
+    ensures whole { IsTrue (accepts context result) }
 {
     match byte {
         b'[' => State::Mark(Punctuator::OpenBracket),
@@ -102,7 +103,8 @@ fn begin_with_mark(byte: u8) -> State
 
 // What `#` begins: a line that is skipped, where only white space stands before it.
 fn begin_with_hash(context: Context, fresh: bool) -> State
-    ensures { result ≡ begin_hash context fresh }
+    ensures value { result ≡ begin_hash context fresh }
+    ensures whole { IsTrue (accepts context result) }
 {
     match context {
         Context::Code => if fresh { State::SkippedLine } else { State::Other },
@@ -114,7 +116,8 @@ fn begin_with_hash(context: Context, fresh: bool) -> State
 // What a byte that is no part of a word begins.
 #[tactic(auto, unfolding(crate::specs::Pieces::begin_sign))]
 fn begin_with_sign(context: Context, fresh: bool, byte: u8) -> State
-    ensures { result ≡ begin_sign context fresh byte }
+    ensures value { result ≡ begin_sign context fresh byte }
+    ensures whole { IsTrue (accepts context result) }
 {
     match byte {
         b'"' => State::Quoted(Quote::Text),
@@ -122,13 +125,14 @@ fn begin_with_sign(context: Context, fresh: bool, byte: u8) -> State
         b'\\' => if context.is_in_annotation() { State::Backslash } else { State::Other },
         b'@' => if context.is_in_annotation() { State::White } else { State::Other },
         b'#' => begin_with_hash(context, fresh),
-        _ => begin_with_mark(byte),
+        _ => begin_with_mark(context, byte),
     }
 }
 
 /// What a byte begins; it may always stand as a piece.
 pub fn begin_with(context: Context, fresh: bool, byte: u8) -> State
-    ensures { result ≡ begin context fresh byte }
+    ensures value { result ≡ begin context fresh byte }
+    ensures whole { IsTrue (accepts context result) }
 {
     if is_white_byte(byte) {
         return State::White;
