@@ -240,3 +240,159 @@ over_less bytes c n s f =
     let some : 0 < n = f.some in
     let w : ℕ = cond (is_inside c.context) 1 0 in
     omega arith
+
+-- ---- at the inside of an annotation
+
+inside_valid : (bytes : List ℕ) (c : Cursor) (n : ℕ) (s : State) (a : Context) → AtFront bytes c n s → 3 + length (closing a) ≤ n → is_inside a ≡ true →
+    IsCursor bytes (inside_cursor c a (length (take n (take (c.end - c.next) (drop c.next bytes)))))
+inside_valid bytes c n s a f room annotation =
+    let long : length (take n (take (c.end - c.next) (drop c.next bytes))) ≡ n = front_length bytes c n s f in
+    let fits : c.next + n ≤ c.end = front_fits bytes c n s f in
+    let within : c.end + length (closing c.context) ≤ length bytes = f.valid.within in
+    let line : c.at.line ≤ c.next + 1 = f.valid.line in
+    let col : c.at.col ≤ c.next + 1 = f.valid.col in
+    record {
+      ordered = omega arith;
+      within = omega arith;
+      code = λ h. absurd (cc (h, annotation));
+      line = omega arith;
+      col = omega arith;
+    }
+
+inside_less : (bytes : List ℕ) (c : Cursor) (n : ℕ) (s : State) (a : Context) → AtFront bytes c n s → 3 + length (closing a) ≤ n →
+    moves_left bytes (inside_cursor c a (length (take n (take (c.end - c.next) (drop c.next bytes))))) < moves_left bytes c
+inside_less bytes c n s a f room =
+    let fits : c.next + n ≤ c.end = front_fits bytes c n s f in
+    let within : c.end + length (closing c.context) ≤ length bytes = f.valid.within in
+    let w : cond (is_inside a) 1 0 ≤ 1 = weight_few (is_inside a) in
+    omega arith
+
+inside_left : (bytes : List ℕ) (c : Cursor) (n : ℕ) (s : State) (a : Context) → AtFront bytes c n s → 3 + length (closing a) ≤ n → is_inside c.context ≡ false →
+    left_of bytes (inside_cursor c a (length (take n (take (c.end - c.next) (drop c.next bytes))))) ≡ inside (left_of bytes c) n a
+inside_left bytes c n s a f room code = left_same _ _ refl refl refl text rest
+  where
+    long : length (take n (take (c.end - c.next) (drop c.next bytes))) ≡ n
+    long = front_length bytes c n s f
+
+    fits : c.next + n ≤ c.end
+    fits = front_fits bytes c n s f
+
+    piece : take n (take (c.end - c.next) (drop c.next bytes)) ≡ take n (drop c.next bytes)
+    piece = take_of_take n (c.end - c.next) (drop c.next bytes) (omega (arith, fits))
+
+    behind_opening : drop 3 (take n (drop c.next bytes)) ≡ take (n - 3) (drop (c.next + 3) bytes)
+    behind_opening = drop_of_take 3 n (drop c.next bytes) (omega (arith, room)) ∙ ap (take (n - 3)) (drop-drop 3 c.next bytes)
+
+    -- both sides, with the number of bytes of the piece and of what closes it
+    by_length : (size close : ℕ) → size ≡ n → 3 + close ≤ n →
+        take (c.next + size - close - (c.next + 3)) (drop (c.next + 3) bytes) ≡ take (size - (3 + close)) (drop 3 (take n (take (c.end - c.next) (drop c.next bytes))))
+    by_length size close e room =
+        let left : c.next + size - close - (c.next + 3) ≡ n - (3 + close) = omega arith in
+        let right : size - (3 + close) ≡ n - (3 + close) = omega arith in
+        ap (λ k. take k (drop (c.next + 3) bytes)) left
+        ∙ sym (take_of_take (n - (3 + close)) (n - 3) (drop (c.next + 3) bytes) (omega arith))
+        ∙ ap (take (n - (3 + close))) (sym (ap (drop 3) piece ∙ behind_opening))
+        ∙ ap (λ k. take k (drop 3 (take n (take (c.end - c.next) (drop c.next bytes))))) (sym right)
+
+    text : take (c.next + length (take n (take (c.end - c.next) (drop c.next bytes))) - length (closing a) - (c.next + 3)) (drop (c.next + 3) bytes) ≡
+        annotated a (take n (take (c.end - c.next) (drop c.next bytes)))
+    text = by_length (length (take n (take (c.end - c.next) (drop c.next bytes)))) (length (closing a)) long room
+
+    all : take (c.end - c.next) (drop c.next bytes) ≡ drop c.next bytes
+    all = ap (λ k. take (k - c.next) (drop c.next bytes)) (f.valid.code code) ∙ take_rest bytes c.next
+
+    rest_by : (size close : ℕ) → size ≡ n → 3 + close ≤ n → drop (c.next + size - close + close) bytes ≡ drop n (take (c.end - c.next) (drop c.next bytes))
+    rest_by size close e room =
+        let sum : c.next + size - close + close ≡ c.next + n = omega arith in
+        ap (λ k. drop k bytes) sum ∙ sym (ap (drop n) all ∙ drop-drop n c.next bytes)
+
+    rest : drop (c.next + length (take n (take (c.end - c.next) (drop c.next bytes))) - length (closing a) + length (closing a)) bytes ≡
+        drop n (take (c.end - c.next) (drop c.next bytes))
+    rest = rest_by (length (take n (take (c.end - c.next) (drop c.next bytes)))) (length (closing a)) long room
+
+-- ---- what comes next
+
+step_at_front : (bytes : List ℕ) (c : Cursor) (n : ℕ) (s : State) (m : Meaning) → AtFront bytes c n s →
+    m ≡ meaning c.context s (take n (take (c.end - c.next) (drop c.next bytes))) →
+    IsStep bytes c (step_of c s (take n (take (c.end - c.next) (drop c.next bytes))) m)
+step_at_front bytes c n s m f e = by_meaning m e
+  where
+    some : 0 < length (take (c.end - c.next) (drop c.next bytes))
+    some =
+        let k : n ≤ length (take (c.end - c.next) (drop c.next bytes)) = f.longest.piece.within in let h : 0 < n = f.some in omega arith
+
+    moves : (m : Meaning) (x : Move) → m ≡ meaning c.context s (take n (take (c.end - c.next) (drop c.next bytes))) → x ≡ move_over (left_of bytes c) n s m → IsMove (left_of bytes c) x
+    moves m x e h =
+        is_move (left_of bytes c) x some
+        (record { length = n; state = s; longest = f.longest; is = h ∙ ap (move_over (left_of bytes c) n s) e })
+
+    by_meaning : (m : Meaning) → m ≡ meaning c.context s (take n (take (c.end - c.next) (drop c.next bytes))) →
+        IsStep bytes c (step_of c s (take n (take (c.end - c.next) (drop c.next bytes))) m)
+    by_meaning Blank e = record {
+      move = moves Blank _ e (ap skips (over_left bytes c n s f));
+      valid = over_valid bytes c n s f;
+      less = over_less bytes c n s f;
+    }
+    by_meaning (Gives w) e = record {
+      move = moves (Gives w) _ e (ap (gives (token w c.at)) (over_left bytes c n s f));
+      valid = over_valid bytes c n s f;
+      less = over_less bytes c n s f;
+    }
+    by_meaning (Annotates a) e =
+        let fit : FitsAnnotation c.context (take n (take (c.end - c.next) (drop c.next bytes))) a = annotation_fits c.context s _ a (sym e) in
+        let long : length (take n (take (c.end - c.next) (drop c.next bytes))) ≡ n = front_length bytes c n s f in
+        let room : 3 + length (closing a) ≤ n = rw long at fit.room in
+        record {
+          move = moves (Annotates a) _ e (ap (gives (token OpenAnnotation c.at)) (inside_left bytes c n s a f room fit.code));
+          valid = inside_valid bytes c n s a f room fit.annotation;
+          less = inside_less bytes c n s a f room;
+        }
+    by_meaning (Wrong flaw) e = moves (Wrong flaw) (fails (fault_of flaw c.at)) e refl
+
+pub step_is : (bytes : List ℕ) (c : Cursor) (n : ℕ) (s : State) (text piece : List ℕ) (m : Meaning) → IsCursor bytes c →
+    text ≡ take (c.end - c.next) (drop c.next bytes) → IsLongest c.context c.fresh text n s → 0 < n → piece ≡ take n text →
+    m ≡ meaning c.context s piece → IsStep bytes c (step_of c s piece m)
+step_is bytes c n s text piece m v e longest some h k =
+    let whole : piece ≡ take n (take (c.end - c.next) (drop c.next bytes)) = h ∙ ap (take n) e in
+    let front : AtFront bytes c n s = record { valid = v; longest = rw e at longest; some = some } in
+    let given : m ≡ meaning c.context s (take n (take (c.end - c.next) (drop c.next bytes))) = k ∙ ap (meaning c.context s) whole in
+    rw whole (step_at_front bytes c n s m front given)
+
+outside_left : (bytes : List ℕ) (c : Cursor) → left_of bytes (outside_cursor c (length bytes)) ≡ outside (left_of bytes c)
+outside_left bytes c =
+    left_same _ _ refl refl refl (take_rest bytes (c.end + length (closing c.context))) (drop_of_length-le bytes {i = length bytes + 0} (omega arith))
+
+outside_valid : (bytes : List ℕ) (c : Cursor) → IsCursor bytes c → c.next ≡ c.end → IsCursor bytes (outside_cursor c (length bytes))
+outside_valid bytes c v e =
+    let within : c.end + length (closing c.context) ≤ length bytes = v.within in
+    let line : c.at.line ≤ c.next + 1 = v.line in
+    let col : c.at.col ≤ c.next + 1 = v.col in
+    record { ordered = within; within = omega arith; code = λ h. refl; line = omega arith; col = omega arith }
+
+outside_less : (bytes : List ℕ) (c : Cursor) → c.next ≡ c.end → is_inside c.context ≡ true → moves_left bytes (outside_cursor c (length bytes)) < moves_left bytes c
+outside_less bytes c e i =
+    let w : cond {A = ℕ} (is_inside c.context) 1 0 ≡ 1 = ap (λ b. cond b 1 0) i in omega arith
+
+pub step_at_end_is : (bytes : List ℕ) (c : Cursor) → IsCursor bytes c → c.next ≡ c.end → IsStep bytes c (step_at_end c (length bytes))
+step_at_end_is bytes c v e = by_context c.context c.fresh c.at c.next c.end v e
+  where
+    nothing : (c : Cursor) → c.next ≡ c.end → take (c.end - c.next) (drop c.next bytes) ≡ []
+    nothing c e = let none : c.end - c.next ≡ 0 = omega arith in rw none refl
+
+    closes : (c : Cursor) → IsCursor bytes c → c.next ≡ c.end → is_inside c.context ≡ true →
+        gives (token CloseAnnotation c.at) (outside (left_of bytes c)) ≡ move_at_end c.context (left_of bytes c) →
+        IsNext bytes c (outside_cursor c (length bytes)) (gives (token CloseAnnotation c.at) (left_of bytes (outside_cursor c (length bytes))))
+    closes c v e i h = record {
+      move = is_end (left_of bytes c) _ (nothing c e) (ap (gives (token CloseAnnotation c.at)) (outside_left bytes c) ∙ h);
+      valid = outside_valid bytes c v e;
+      less = outside_less bytes c e i;
+    }
+
+    by_context : (x : Context) (fresh : Bool) (at : Span) (next end : ℕ) → IsCursor bytes (record { context = x; fresh = fresh; at = at; next = next; end = end }) →
+        next ≡ end → IsStep bytes (record { context = x; fresh = fresh; at = at; next = next; end = end })
+            (step_at_end (record { context = x; fresh = fresh; at = at; next = next; end = end }) (length bytes))
+    by_context Code fresh at next end v e =
+        is_end (left_of bytes (record { context = Code; fresh = fresh; at = at; next = next; end = end })) ends
+        (nothing (record { context = Code; fresh = fresh; at = at; next = next; end = end }) e) refl
+    by_context LineAnnotation fresh at next end v e = closes (record { context = LineAnnotation; fresh = fresh; at = at; next = next; end = end }) v e refl refl
+    by_context BlockAnnotation fresh at next end v e = closes (record { context = BlockAnnotation; fresh = fresh; at = at; next = next; end = end }) v e refl refl
