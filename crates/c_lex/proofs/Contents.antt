@@ -1,5 +1,5 @@
 -- Reading what stands between quotes, from the left.
-use Rattle.std.proofs.Common.{◌≡◌, ℕ, zero, suc, ◌+◌, ◌<◌, ◌≤◌, ◌==◌, Bool, true, false, cond, List, [], ◌∷◌, ◌++◌, length, get_or, drop, Option, Some, None, option_map, option_and_then, refl, sym, ◌∙◌, ap, arith, add-one, drop-cons, drop-drop, length-drop, drop_of_length-le, append_assoc, append-nil}
+use Rattle.std.proofs.Common.{◌≡◌, ℕ, zero, suc, ◌+◌, ◌<◌, ◌≤◌, ◌==◌, true, false, List, [], ◌∷◌, ◌++◌, length, get_or, drop, Option, Some, None, option_map, option_and_then, refl, sym, ◌∙◌, ap, arith, add-one, drop-cons, drop-drop, length-drop, drop_of_length-le, append_assoc, append-nil}
 use Rattle.c_lex.specs.declared.text.Escaped.{Escaped}
 use Rattle.c_lex.specs.Texts.{simple, escape, contents}
 

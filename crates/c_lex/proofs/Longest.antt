@@ -1,8 +1,7 @@
 -- The longest piece at the front of some bytes.
-use Rattle.std.proofs.Common.{◌≡◌, ℕ, zero, suc, ◌+◌, ◌-◌, ◌<◌, ◌≤◌, ◌==◌, Bool, true, false, cond, IsTrue, List, length, get_or, Option, Some, None, option_and_then, refl, sym, ◌∙◌, ap, arith, add-one}
+use Rattle.std.proofs.Common.{◌≡◌, ℕ, zero, suc, ◌+◌, ◌-◌, ◌<◌, ◌≤◌, ◌==◌, Bool, true, false, cond, IsTrue, List, length, get_or, Option, Some, None, refl, sym, ap, arith, add-one}
 use Rattle.c_lex.specs.declared.state.Context.{Context}
 use Rattle.c_lex.specs.declared.state.State.{State}
-use Rattle.c_lex.specs.declared.state.State.TheVariants.{Start}
 use Rattle.c_lex.specs.declared.cut.Front.{Front}
 use Rattle.c_lex.specs.Pieces.{begin, step, accepts, reached, IsPiece, IsLongest}
 

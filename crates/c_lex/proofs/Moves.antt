@@ -1,9 +1,7 @@
 -- A file's outcome is one, and moves of the lexer lead to it.
-use Rattle.std.proofs.Common.{◌≡◌, ℕ, zero, suc, ◌+◌, ◌-◌, ◌*◌, ◌<◌, ◌≤◌, Bool, true, false, cond, IsTrue, List, [], ◌∷◌, ◌++◌, length, take, drop, Option, Some, None, refl, sym, ◌∙◌, ap, subst, arith, append_assoc, append-nil, length-append, take_all, drop_of_length-le}
-use Rattle.c_prog.specs.declared.number.Span.{Span}
+use Rattle.std.proofs.Common.{◌≡◌, ℕ, zero, suc, ◌+◌, ◌-◌, ◌*◌, ◌<◌, ◌≤◌, Bool, List, [], ◌∷◌, ◌++◌, length, take, drop, Some, refl, sym, ◌∙◌, ap, subst, arith, append-nil, length-append, take_all, drop_of_length-le}
 use Rattle.c_prog.specs.declared.token.Token.{Token}
 use Rattle.c_lex.specs.declared.cut.Cursor.{Cursor}
-use Rattle.c_lex.specs.declared.fault.Flaw.{Flaw}
 use Rattle.c_lex.specs.declared.fault.Flaw.TheVariants.{BadByte as BadByteFlaw, OpenComment as OpenCommentFlaw, OpenString as OpenStringFlaw, BadNumber as BadNumberFlaw}
 use Rattle.c_lex.specs.declared.fault.LexFault.{LexFault}
 use Rattle.c_lex.specs.declared.fault.LexFault.TheVariants.{BadByte, OpenComment, OpenString, BadNumber, TooMany, Memory}
@@ -12,9 +10,9 @@ use Rattle.c_lex.specs.declared.state.Context.TheVariants.{Code, LineAnnotation,
 use Rattle.c_lex.specs.declared.meaning.Meaning.{Meaning}
 use Rattle.c_lex.specs.declared.meaning.Meaning.TheVariants.{Blank, Gives, Annotates, Wrong}
 use Rattle.c_lex.specs.declared.state.State.{State}
-use Rattle.c_lex.specs.Pieces.{reached, is_inside, IsPiece, IsLongest}
-use Rattle.c_lex.specs.Meanings.{closing, meaning}
-use Rattle.c_lex.specs.Tokens.{Left, Move, ends, fails, gives, skips, move_over, move_at_end, IsMove, IsMoveBy, IsOver, Outcome, tokens, fault, before, Onward, Comes, start, AreTokensOf, HasFault}
+use Rattle.c_lex.specs.Pieces.{reached, IsLongest}
+use Rattle.c_lex.specs.Meanings.{meaning}
+use Rattle.c_lex.specs.Tokens.{Left, Move, ends, fails, gives, skips, move_over, move_at_end, IsMove, IsMoveBy, Outcome, tokens, fault, before, Onward, Comes, start, AreTokensOf, HasFault}
 use Rattle.c_lex.specs.Lexing.{AreTheTokensOf, AreAnswered, IsRefusedFor, AreTooMany, IsRefusal}
 use Rattle.c_lex.specs.Cursors.{start_cursor, left_of, IsCursor, moves_left, IsNext}
 

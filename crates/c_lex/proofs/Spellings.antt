@@ -1,6 +1,5 @@
 -- Looking a name up in a table of spellings.
-use Rattle.std.proofs.Common.{◌≡◌, ℕ, ◌+◌, ◌<◌, ◌≤◌, Bool, true, false, cond, List, [], ◌∷◌, length, get_or, drop, Option, Some, None, refl, sym, ◌∙◌, ap, arith, add-one, drop-cons, drop_of_length-le, bytes_eq}
-use Rattle.c_prog.specs.declared.token.Keyword.{Keyword}
+use Rattle.std.proofs.Common.{◌≡◌, ℕ, ◌+◌, ◌<◌, ◌≤◌, true, false, cond, List, length, get_or, drop, Some, None, refl, sym, ◌∙◌, add-one, drop-cons, drop_of_length-le, bytes_eq}
 use Rattle.c_lex.specs.declared.word.Spelling.{Spelling}
 use Rattle.c_lex.specs.Words.{keyword_in}
 

@@ -1,22 +1,18 @@
 -- What comes next, at the lexer's place in the bytes.
-use Rattle.std.proofs.Common.{◌≡◌, ◌≢◌, ℕ, zero, suc, ◌+◌, ◌-◌, ◌*◌, ◌<◌, ◌≤◌, ◌==◌, nat_lt, Bool, true, false, cond, IsTrue, List, [], ◌∷◌, length, get_or, take, drop, Option, Some, None, refl, sym, ◌∙◌, ap, subst, arith, length-drop, length-take-le, drop-drop, take_all, drop_of_length-le}
+use Rattle.std.proofs.Common.{◌≡◌, ℕ, zero, suc, ◌+◌, ◌-◌, ◌<◌, ◌≤◌, ◌==◌, nat_lt, Bool, true, false, cond, List, [], ◌∷◌, length, get_or, take, drop, Option, Some, None, refl, sym, ◌∙◌, ap, arith, length-drop, length-take-le, drop-drop, drop_of_length-le}
 use Rattle.std.proofs.lemmas.List.{drop-take, take_rest}
 use Rattle.std.proofs.lemmas.Bool.Decides.{nat_tests}
 use Rattle.c_prog.specs.declared.number.Span.{Span}
 use Rattle.c_prog.specs.declared.token.Word.{Word}
 use Rattle.c_prog.specs.declared.token.Word.TheVariants.{OpenAnnotation, CloseAnnotation}
-use Rattle.c_prog.specs.declared.token.Token.{Token}
 use Rattle.c_prog.specs.declared.token.Keyword.{Keyword}
 use Rattle.c_prog.specs.declared.token.IntegerConstant.{IntegerConstant}
 use Rattle.c_lex.specs.declared.cut.Cursor.{Cursor}
-use Rattle.c_lex.specs.declared.cut.Step.{Step}
-use Rattle.c_lex.specs.declared.cut.Step.TheVariants.{End, Fault, Skip, Give}
 use Rattle.c_lex.specs.declared.fault.Flaw.{Flaw}
 use Rattle.c_lex.specs.declared.meaning.Meaning.{Meaning}
 use Rattle.c_lex.specs.declared.meaning.Meaning.TheVariants.{Blank, Gives, Annotates, Wrong}
 use Rattle.c_lex.specs.declared.state.Context.{Context}
 use Rattle.c_lex.specs.declared.state.Context.TheVariants.{Code, LineAnnotation, BlockAnnotation}
-use Rattle.c_lex.specs.declared.state.Quote.{Quote}
 use Rattle.c_lex.specs.declared.state.Quote.TheVariants.{Character, Text}
 use Rattle.c_lex.specs.declared.state.State.{State}
 use Rattle.c_lex.specs.declared.state.State.TheVariants.{Start, White, Name, Backslash, AnnotationName, Number, Exponent, Mark, LessEqualEqual, LineComment, BlockComment, BlockStar, Comment, SkippedLine, Quoted, Escape, Closed, Other}
@@ -24,9 +20,9 @@ use Rattle.c_lex.specs.Meanings.{closing, fault_of, meaning, comment_meaning, na
 use Rattle.c_lex.specs.Numbers.{integer_of, is_floating}
 use Rattle.c_lex.specs.Texts.{contents, inner}
 use Rattle.c_lex.specs.Words.{keyword_of, is_dropped}
-use Rattle.c_lex.specs.Pieces.{is_inside, IsPiece, IsLongest}
-use Rattle.c_lex.specs.Tokens.{Left, Move, ends, fails, gives, skips, IsMove, IsMoveBy, move_at_end, IsOver, behind, inside, outside, annotated, token, further, after, after_all, is_fresh, move_over}
-use Rattle.c_lex.specs.Cursors.{start_cursor, over_cursor, inside_cursor, outside_cursor, step_of, step_at_end, FitsMeaning, left_of, IsCursor, moves_left, IsNext, IsStep}
+use Rattle.c_lex.specs.Pieces.{is_inside, IsLongest}
+use Rattle.c_lex.specs.Tokens.{Left, Move, ends, fails, gives, skips, IsMove, IsMoveBy, move_at_end, IsOver, behind, inside, outside, annotated, token, after, after_all, move_over}
+use Rattle.c_lex.specs.Cursors.{over_cursor, inside_cursor, outside_cursor, step_of, step_at_end, FitsMeaning, left_of, IsCursor, moves_left, IsNext, IsStep}
 use Rattle.c_lex.proofs.Places.{within_line}
 
 -- ---- annotations
@@ -390,7 +386,7 @@ step_at_end_is bytes c v e = by_context c.context c.fresh c.at c.next c.end v e
 
     by_context : (x : Context) (fresh : Bool) (at : Span) (next end : ℕ) → IsCursor bytes (record { context = x; fresh = fresh; at = at; next = next; end = end }) →
         next ≡ end → IsStep bytes (record { context = x; fresh = fresh; at = at; next = next; end = end })
-            (step_at_end (record { context = x; fresh = fresh; at = at; next = next; end = end }) (length bytes))
+        (step_at_end (record { context = x; fresh = fresh; at = at; next = next; end = end }) (length bytes))
     by_context Code fresh at next end v e =
         is_end (left_of bytes (record { context = Code; fresh = fresh; at = at; next = next; end = end })) ends
         (nothing (record { context = Code; fresh = fresh; at = at; next = next; end = end }) e) refl

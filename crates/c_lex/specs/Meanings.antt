@@ -1,5 +1,5 @@
 -- What a piece gives: one token or none, the tokens of an annotation, or a fault (C11 6.4).
-use Rattle.std.specs.Prelude.{ℕ, ◌+◌, ◌==◌, nat_lt, nat_le, Bool, not, cond, ◌&&◌, List, [], ◌∷◌, length, slice_index, Option, None, Some}
+use Rattle.std.specs.Prelude.{ℕ, ◌+◌, ◌==◌, nat_lt, Bool, cond, ◌&&◌, List, [], length, slice_index, Option, None, Some}
 use lib.Chars.{codes}
 use Rattle.c_prog.specs.declared.number.Span.{Span}
 use Rattle.c_prog.specs.declared.token.Keyword.{Keyword}

@@ -1,17 +1,16 @@
 -- How a file is cut into tokens (C11 6.4): from its front into pieces, each of them the longest that can stand there.
-use Rattle.std.specs.Prelude.{◌≡◌, ℕ, zero, suc, ◌+◌, ◌-◌, ◌≤◌, ◌<◌, ◌==◌, Bool, true, false, cond, ◌||◌, List, [], ◌∷◌, length, slice_index, take, drop, Option, None, Some}
+use Rattle.std.specs.Prelude.{◌≡◌, ℕ, zero, suc, ◌+◌, ◌-◌, ◌==◌, Bool, true, false, cond, ◌||◌, List, [], ◌∷◌, length, slice_index, take, drop}
 use Rattle.c_prog.specs.declared.number.Span.{Span}
 use Rattle.c_prog.specs.declared.token.Word.{Word}
 use Rattle.c_prog.specs.declared.token.Word.TheVariants.{OpenAnnotation, CloseAnnotation}
 use Rattle.c_prog.specs.declared.token.Token.{Token}
 use Rattle.c_lex.specs.declared.fault.LexFault.{LexFault}
-use Rattle.c_lex.specs.declared.fault.LexFault.TheVariants.{BadByte, OpenComment, OpenString, BadNumber, TooMany, Memory}
 use Rattle.c_lex.specs.declared.meaning.Meaning.{Meaning}
 use Rattle.c_lex.specs.declared.meaning.Meaning.TheVariants.{Blank, Gives, Annotates, Wrong}
 use Rattle.c_lex.specs.declared.state.Context.{Context}
 use Rattle.c_lex.specs.declared.state.Context.TheVariants.{Code, LineAnnotation, BlockAnnotation}
 use Rattle.c_lex.specs.declared.state.State.{State}
-use Rattle.c_lex.specs.declared.state.State.TheVariants.{Start, White, Name, Backslash, AnnotationName, Number, Exponent, Mark, LessEqualEqual, LineComment, BlockComment, BlockStar, Comment, SkippedLine, Quoted, Escape, Closed, Other}
+use Rattle.c_lex.specs.declared.state.State.TheVariants.{White}
 use Rattle.c_lex.specs.Meanings.{closing, fault_of, meaning}
 use Rattle.c_lex.specs.Pieces.{IsLongest}
 

@@ -74,12 +74,20 @@ pub fn byte_at(bytes: &[u8], index: usize) -> u8
 pub fn behind(bytes: &[u8], index: usize) -> &[u8]
     ensures { result.now ≡ drop index bytes.now }
 {
-    if index < bytes.len() { &bytes[index..] } else { &[] }
+    if index < bytes.len() {
+        &bytes[index..]
+    } else {
+        &[]
+    }
 }
 
 /// The bytes before an index.
 pub fn before(bytes: &[u8], index: usize) -> &[u8]
     ensures { result.now ≡ take index bytes.now }
 {
-    if index < bytes.len() { &bytes[..index] } else { bytes }
+    if index < bytes.len() {
+        &bytes[..index]
+    } else {
+        bytes
+    }
 }

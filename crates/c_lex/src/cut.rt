@@ -24,7 +24,11 @@ pub struct Front {
 fn longer(context: Context, found: Front, more: Front) -> Front
     ensures { result ≡ cond (accepts context more.state) more found }
 {
-    if is_whole(context, more.state) { more } else { found }
+    if is_whole(context, more.state) {
+        more
+    } else {
+        found
+    }
 }
 
 /// The longest piece at the front of the bytes.
@@ -37,12 +41,24 @@ pub fn longest_front(context: Context, fresh: bool, bytes: &[u8]) -> Front
     let mut found = Front { length: 1, state };
     let mut next = 1;
     'going: while next < bytes.len() {
-        match step_with(context, state, bytes[next], byte_at(bytes, next + 1) == b'.') {
+        match step_with(
+            context,
+            state,
+            bytes[next],
+            byte_at(bytes, next + 1) == b'.',
+        ) {
             None => return found,
             Some(after) => {
                 next += 1;
                 state = after;
-                found = longer(context, found, Front { length: next, state: after });
+                found = longer(
+                    context,
+                    found,
+                    Front {
+                        length: next,
+                        state: after,
+                    },
+                );
             }
         }
     }
@@ -199,7 +215,13 @@ fn step_over(cursor: &Cursor, state: State, piece: &[u8], meaning: Meaning) -> S
 {
     match meaning {
         Meaning::Blank => Step::Skip(cursor.over(state, piece)),
-        Meaning::Gives(word) => Step::Give(Token { word, span: cursor.at }, cursor.over(state, piece)),
+        Meaning::Gives(word) => Step::Give(
+            Token {
+                word,
+                span: cursor.at,
+            },
+            cursor.over(state, piece),
+        ),
         Meaning::Annotates(annotation) => Step::Give(
             Token {
                 word: Word::OpenAnnotation,

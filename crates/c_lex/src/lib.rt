@@ -9,14 +9,14 @@ use crate::fault::LexFault;
 use c_prog::token::Token;
 use std::alloc::{AllocError, Global};
 
-pub mod bytes;
-pub mod cut;
+mod bytes;
+mod cut;
 pub mod fault;
-pub mod meaning;
-pub mod number;
-pub mod state;
-pub mod text;
-pub mod word;
+mod meaning;
+mod number;
+mod state;
+mod text;
+mod word;
 
 /// How many tokens are returned at most.
 pub const MOST_TOKENS: u64 = 2_000_000;

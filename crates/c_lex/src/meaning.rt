@@ -49,7 +49,11 @@ fn meaning_of_comment(context: Context, annotation: Context, text: &[u8]) -> Mea
     if text.len() < 3 + closing_length(annotation) {
         return Meaning::Blank;
     }
-    if byte_at(text, 2) == b'@' { Meaning::Annotates(annotation) } else { Meaning::Blank }
+    if byte_at(text, 2) == b'@' {
+        Meaning::Annotates(annotation)
+    } else {
+        Meaning::Blank
+    }
 }
 
 #[tactic(auto, unfolding(crate::specs::Meanings::name_meaning))]
@@ -100,7 +104,11 @@ fn meaning_of_bytes(first: u8, bytes: &[u8]) -> Meaning
     if bytes.len() != 1 {
         return Meaning::Wrong(Flaw::BadByte);
     }
-    if first < 128 { Meaning::Gives(Word::Character(bytes[0])) } else { Meaning::Wrong(Flaw::BadByte) }
+    if first < 128 {
+        Meaning::Gives(Word::Character(bytes[0]))
+    } else {
+        Meaning::Wrong(Flaw::BadByte)
+    }
 }
 
 #[tactic(auto, unfolding(crate::specs::Meanings::character_meaning))]
@@ -131,7 +139,12 @@ fn meaning_of_word(alloc: Global, text: &[u8]) -> Result<Meaning, AllocError>
 }
 
 /// What a piece gives.
-pub fn meaning_of(alloc: Global, context: Context, state: State, text: &[u8]) -> Result<Meaning, AllocError>
+pub fn meaning_of(
+    alloc: Global,
+    context: Context,
+    state: State,
+    text: &[u8],
+) -> Result<Meaning, AllocError>
     ensures { IfOk result (λ m. m ≡ meaning context state text.now) }
 {
     match state {

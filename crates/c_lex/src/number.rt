@@ -18,7 +18,9 @@ fn is_digit_in(radix: Radix, byte: u8) -> bool
     match radix {
         Radix::Octal => byte >= b'0' && byte <= b'7',
         Radix::Decimal => is_digit_byte(byte),
-        Radix::Hexadecimal => is_digit_byte(byte) || (byte >= b'a' && byte <= b'f') || (byte >= b'A' && byte <= b'F'),
+        Radix::Hexadecimal => is_digit_byte(byte)
+            || (byte >= b'a' && byte <= b'f')
+            || (byte >= b'A' && byte <= b'F'),
     }
 }
 
@@ -109,7 +111,11 @@ fn read_length(text: &[u8]) -> Option<Length>
     if text.len() != 2 {
         return None;
     }
-    if byte_at(text, 1) == first { Some(Length::LongLong) } else { None }
+    if byte_at(text, 1) == first {
+        Some(Length::LongLong)
+    } else {
+        None
+    }
 }
 
 fn suffix_with(unsigned: bool, length: Option<Length>) -> Option<Suffix>
@@ -136,7 +142,11 @@ fn read_suffix(text: &[u8]) -> Option<Suffix>
     suffix_with(false, read_length(text))
 }
 
-fn integer_with(radix: Radix, value: Option<u128>, suffix: Option<Suffix>) -> Option<IntegerConstant>
+fn integer_with(
+    radix: Radix,
+    value: Option<u128>,
+    suffix: Option<Suffix>,
+) -> Option<IntegerConstant>
     ensures { result ≡ constant_with radix value suffix }
 {
     match value {
@@ -162,7 +172,11 @@ fn integer_in(radix: Radix, text: &[u8]) -> Option<IntegerConstant>
     if count == 0 {
         return None;
     }
-    integer_with(radix, read_digits(radix, before(text, count)), read_suffix(behind(text, count)))
+    integer_with(
+        radix,
+        read_digits(radix, before(text, count)),
+        read_suffix(behind(text, count)),
+    )
 }
 
 fn is_hexadecimal(text: &[u8]) -> bool
@@ -220,7 +234,11 @@ fn is_exponent(radix: Radix, text: &[u8]) -> bool
     if !is_letter_of_exponent(radix, byte_at(text, 0)) {
         return false;
     }
-    if is_sign_byte(byte_at(text, 1)) { are_exponent_digits(behind(text, 2)) } else { are_exponent_digits(behind(text, 1)) }
+    if is_sign_byte(byte_at(text, 1)) {
+        are_exponent_digits(behind(text, 2))
+    } else {
+        are_exponent_digits(behind(text, 1))
+    }
 }
 
 fn is_letter_of_exponent(radix: Radix, byte: u8) -> bool

@@ -2,7 +2,10 @@
 ghost use Rattle.std.specs.Prelude.{◌≡◌, IsTrue};
 ghost use Rattle.c_lex.specs.Pieces.{is_inside, step, accepts, accepts_mark, begin, begin_mark, begin_hash, begin_sign, mark_goes, one, two, dot_goes, slash_goes, minus_goes, equal_goes, less_equal_goes, number_goes, exponent_goes, comment_goes, byte_of_quote, quoted_goes, when};
 
-use crate::bytes::{begins_exponent, begins_name, continues_name, is_digit_byte, is_letter_byte, is_sign_byte, is_white_byte};
+use crate::bytes::{
+    begins_exponent, begins_name, continues_name, is_digit_byte, is_letter_byte, is_sign_byte,
+    is_white_byte,
+};
 use c_prog::token::Punctuator;
 
 /// Where a byte stands: in the code, in an annotation `//@ ..`, or in an annotation `/*@ .. */`.
@@ -107,7 +110,11 @@ fn begin_with_hash(context: Context, fresh: bool) -> State
     ensures whole { IsTrue (accepts context result) }
 {
     match context {
-        Context::Code => if fresh { State::SkippedLine } else { State::Other },
+        Context::Code => if fresh {
+            State::SkippedLine
+        } else {
+            State::Other
+        },
         Context::LineAnnotation => State::Other,
         Context::BlockAnnotation => State::Other,
     }
@@ -122,8 +129,16 @@ fn begin_with_sign(context: Context, fresh: bool, byte: u8) -> State
     match byte {
         b'"' => State::Quoted(Quote::Text),
         b'\'' => State::Quoted(Quote::Character),
-        b'\\' => if context.is_in_annotation() { State::Backslash } else { State::Other },
-        b'@' => if context.is_in_annotation() { State::White } else { State::Other },
+        b'\\' => if context.is_in_annotation() {
+            State::Backslash
+        } else {
+            State::Other
+        },
+        b'@' => if context.is_in_annotation() {
+            State::White
+        } else {
+            State::Other
+        },
         b'#' => begin_with_hash(context, fresh),
         _ => begin_with_mark(context, byte),
     }
@@ -166,7 +181,11 @@ fn number_with(context: Context, byte: u8, before_dot: bool) -> Option<State>
     if !before_dot {
         return Some(State::Number);
     }
-    if context.is_in_annotation() { None } else { Some(State::Number) }
+    if context.is_in_annotation() {
+        None
+    } else {
+        Some(State::Number)
+    }
 }
 
 #[tactic(auto, unfolding(crate::specs::Pieces::exponent_goes))]
@@ -186,7 +205,11 @@ fn dot_with(byte: u8) -> Option<State>
     if is_digit_byte(byte) {
         return Some(State::Number);
     }
-    if byte == b'.' { Some(State::Mark(Punctuator::DotDot)) } else { None }
+    if byte == b'.' {
+        Some(State::Mark(Punctuator::DotDot))
+    } else {
+        None
+    }
 }
 
 #[tactic(auto, unfolding(crate::specs::Pieces::slash_goes))]
@@ -196,7 +219,11 @@ fn slash_with(context: Context, byte: u8) -> Option<State>
     match byte {
         b'/' => Some(State::LineComment),
         b'=' => Some(State::Mark(Punctuator::SlashAssign)),
-        b'*' => if context.is_in_annotation() { None } else { Some(State::BlockComment) },
+        b'*' => if context.is_in_annotation() {
+            None
+        } else {
+            Some(State::BlockComment)
+        },
         _ => None,
     }
 }
@@ -205,14 +232,22 @@ fn slash_with(context: Context, byte: u8) -> Option<State>
 fn only(byte: u8, expected: u8, then: Punctuator) -> Option<State>
     ensures { result ≡ one byte expected then }
 {
-    if byte == expected { Some(State::Mark(then)) } else { None }
+    if byte == expected {
+        Some(State::Mark(then))
+    } else {
+        None
+    }
 }
 
 // A punctuator that goes on with either of two bytes.
 fn either(byte: u8, first: u8, then: Punctuator, second: u8, otherwise: Punctuator) -> Option<State>
     ensures { result ≡ two byte first then second otherwise }
 {
-    if byte == first { Some(State::Mark(then)) } else { only(byte, second, otherwise) }
+    if byte == first {
+        Some(State::Mark(then))
+    } else {
+        only(byte, second, otherwise)
+    }
 }
 
 #[tactic(auto, unfolding(crate::specs::Pieces::minus_goes))]
@@ -222,14 +257,24 @@ fn minus_with(byte: u8) -> Option<State>
     if byte == b'>' {
         return Some(State::Mark(Punctuator::Arrow));
     }
-    either(byte, b'-', Punctuator::Decrement, b'=', Punctuator::MinusAssign)
+    either(
+        byte,
+        b'-',
+        Punctuator::Decrement,
+        b'=',
+        Punctuator::MinusAssign,
+    )
 }
 
 #[tactic(auto, unfolding(crate::specs::Pieces::equal_goes))]
 fn equal_with(context: Context, byte: u8) -> Option<State>
     ensures { result ≡ equal_goes context byte }
 {
-    if context.is_in_annotation() { only(byte, b'>', Punctuator::Implies) } else { None }
+    if context.is_in_annotation() {
+        only(byte, b'>', Punctuator::Implies)
+    } else {
+        None
+    }
 }
 
 #[tactic(auto, unfolding(crate::specs::Pieces::less_equal_goes))]
@@ -239,7 +284,11 @@ fn less_equal_with(context: Context, byte: u8) -> Option<State>
     if byte != b'=' {
         return None;
     }
-    if context.is_in_annotation() { Some(State::LessEqualEqual) } else { None }
+    if context.is_in_annotation() {
+        Some(State::LessEqualEqual)
+    } else {
+        None
+    }
 }
 
 // A punctuator goes on (C11 6.4.6).
@@ -250,11 +299,35 @@ fn mark_with(context: Context, mark: Punctuator, byte: u8) -> Option<State>
         Punctuator::Dot => dot_with(byte),
         Punctuator::DotDot => only(byte, b'.', Punctuator::Ellipsis),
         Punctuator::Minus => minus_with(byte),
-        Punctuator::Plus => either(byte, b'+', Punctuator::Increment, b'=', Punctuator::PlusAssign),
-        Punctuator::Ampersand => either(byte, b'&', Punctuator::AndAnd, b'=', Punctuator::AmpersandAssign),
+        Punctuator::Plus => either(
+            byte,
+            b'+',
+            Punctuator::Increment,
+            b'=',
+            Punctuator::PlusAssign,
+        ),
+        Punctuator::Ampersand => either(
+            byte,
+            b'&',
+            Punctuator::AndAnd,
+            b'=',
+            Punctuator::AmpersandAssign,
+        ),
         Punctuator::Bar => either(byte, b'|', Punctuator::OrOr, b'=', Punctuator::BarAssign),
-        Punctuator::Less => either(byte, b'<', Punctuator::ShiftLeft, b'=', Punctuator::LessEqual),
-        Punctuator::Greater => either(byte, b'>', Punctuator::ShiftRight, b'=', Punctuator::GreaterEqual),
+        Punctuator::Less => either(
+            byte,
+            b'<',
+            Punctuator::ShiftLeft,
+            b'=',
+            Punctuator::LessEqual,
+        ),
+        Punctuator::Greater => either(
+            byte,
+            b'>',
+            Punctuator::ShiftRight,
+            b'=',
+            Punctuator::GreaterEqual,
+        ),
         Punctuator::Star => only(byte, b'=', Punctuator::StarAssign),
         Punctuator::Percent => only(byte, b'=', Punctuator::PercentAssign),
         Punctuator::Caret => only(byte, b'=', Punctuator::CaretAssign),
@@ -277,7 +350,11 @@ fn comment_with(star: bool, byte: u8) -> State
     if byte == b'*' {
         return State::BlockStar;
     }
-    if byte == b'/' && star { State::Comment } else { State::BlockComment }
+    if byte == b'/' && star {
+        State::Comment
+    } else {
+        State::BlockComment
+    }
 }
 
 fn quote_byte(quote: Quote) -> u8
@@ -300,7 +377,11 @@ fn quoted_with(quote: Quote, byte: u8) -> Option<State>
     if byte == b'\\' {
         return Some(State::Escape(quote));
     }
-    if byte == quote_byte(quote) { Some(State::Closed(quote)) } else { Some(State::Quoted(quote)) }
+    if byte == quote_byte(quote) {
+        Some(State::Closed(quote))
+    } else {
+        Some(State::Quoted(quote))
+    }
 }
 
 // The state where a test holds, and the end of the piece where it doesn't.

@@ -19,7 +19,10 @@ fn word_text(alloc: Global, word: &Word) -> Result<String, AllocError> {
         Word::Identifier(name) => add_bytes(&mut out, name.as_bytes())?,
         Word::Keyword(keyword) => return format!(in alloc; "{keyword:?}"),
         Word::Punctuator(mark) => return format!(in alloc; "{mark:?}"),
-        Word::Integer(c) => return format!(in alloc; "{:?}-{}-{}-{:?}", c.radix, c.value, c.unsigned, c.length),
+        Word::Integer(c) => return format!(in alloc;
+            "{:?}-{}-{}-{:?}",
+            c.radix, c.value, c.unsigned, c.length
+        ),
         Word::Floating => out.push_str("float")?,
         Word::Character(byte) => return format!(in alloc; "'{byte}'"),
         Word::Text(bytes) => return format!(in alloc; "{:?}", bytes.as_slice()),

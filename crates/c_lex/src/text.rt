@@ -62,7 +62,10 @@ fn hexadecimal_escape(text: &[u8]) -> Option<Escaped>
     if count == 0 {
         return None;
     }
-    numeric_escape(read_digits(Radix::Hexadecimal, before(digits, count)), count + 1)
+    numeric_escape(
+        read_digits(Radix::Hexadecimal, before(digits, count)),
+        count + 1,
+    )
 }
 
 /// The escape whose `\` stands directly before the text.

@@ -1,4 +1,3 @@
-use Rattle.std.proofs.Common.{rules, arith}
 use Rattle.c_lex.proofs.Moves.{cutting_begun, cutting_blank, cutting_token, cutting_refuses, cutting_ends, cut_answers, cut_too_many}
 use Rattle.c_lex.proofs.lex.Goals as goal
 

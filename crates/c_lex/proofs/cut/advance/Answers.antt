@@ -1,6 +1,4 @@
-use Rattle.std.proofs.Common.{rules}
-use Rattle.c_lex.specs.Cursors.{IsStep}
-use Rattle.c_lex.proofs.Stepping.{meaning_fits, step_is, step_at_end_is}
+use Rattle.c_lex.proofs.Stepping.{meaning_fits, step_is}
 use Rattle.c_lex.proofs.cut.advance.Goals as goal
 
 pub step_over-requires-clause-fits : goal.step_over-requires-clause-fits
@@ -10,5 +8,5 @@ pub returns : goal.returns
 returns c =
     rw c.step_over.ensures
     (step_is c.args.bytes.now c.args.cursor.now c.longest_front-front.result.length c.longest_front-front.result.state c.text-text.result.now c.before-piece.result.now
-      c.in_ok-meaning.meaning c.requires.valid c.text-text.ensures c.longest_front-front.ensures.longest c.longest_front-front.ensures.some c.before-piece.ensures
-      c.in_ok-meaning.ensures)
+    c.in_ok-meaning.meaning c.requires.valid c.text-text.ensures c.longest_front-front.ensures.longest c.longest_front-front.ensures.some c.before-piece.ensures
+    c.in_ok-meaning.ensures)

@@ -1,4 +1,4 @@
-use Rattle.std.proofs.Common.{rules, ◌≡◌, ◌+◌, ◌==◌, get_or, None, Some}
+use Rattle.std.proofs.Common.{◌≡◌, ◌+◌, ◌==◌, get_or, None, Some}
 use Rattle.c_lex.specs.Pieces.{step}
 use Rattle.c_lex.proofs.Longest.{going_stops, going_on}
 use Rattle.c_lex.proofs.cut.longest_front.Goals as goal

@@ -1,5 +1,5 @@
 use Rattle.std.proofs.Common.{rules}
-use Rattle.c_lex.proofs.Spellings.{looks_on, looks_found, looks_none}
+use Rattle.c_lex.proofs.Spellings.{looks_none}
 use Rattle.c_lex.proofs.word.keyword_among.Goals as goal
 
 pub returns : goal.returns
