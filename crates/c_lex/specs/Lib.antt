@@ -1,5 +1,7 @@
 pub mod Bytes
+pub mod Spellings
 pub mod Pieces
+pub mod Marks
 pub mod Numbers
 pub mod Texts
 pub mod Words

@@ -1,14 +1,15 @@
 -- Pieces of a file (C11 6.4): what a byte begins, how a piece goes on, and which piece is the longest.
-use Rattle.std.specs.Prelude.{◌≡◌, ℕ, zero, suc, ◌≤◌, ◌<◌, ◌==◌, Bool, true, false, not, cond, ◌&&◌, ◌||◌, IsTrue, List, length, slice_index, Option, None, Some}
+use Rattle.std.specs.Prelude.{◌≡◌, [], ◌∷◌, ℕ, zero, suc, ◌≤◌, ◌<◌, ◌==◌, Bool, true, false, not, cond, ◌&&◌, ◌||◌, IsTrue, List, length, slice_index, Option, None, Some}
 use Rattle.std.specs.Option.{option_and_then}
 use Rattle.c_prog.specs.declared.token.Punctuator.{Punctuator}
-use Rattle.c_prog.specs.declared.token.Punctuator.TheVariants.{OpenBracket, CloseBracket, OpenParenthesis, CloseParenthesis, OpenBrace, CloseBrace, Dot, Arrow, Increment, Decrement, Ampersand, Star, Plus, Minus, Tilde, Exclamation, Slash, Percent, ShiftLeft, ShiftRight, Less, Greater, LessEqual, GreaterEqual, Equal, NotEqual, Caret, Bar, AndAnd, OrOr, Question, Colon, Semicolon, Ellipsis, Assign, StarAssign, SlashAssign, PercentAssign, PlusAssign, MinusAssign, ShiftLeftAssign, ShiftRightAssign, AmpersandAssign, CaretAssign, BarAssign, Comma, DotDot, Implies, Equivalent}
+use Rattle.c_prog.specs.declared.token.Punctuator.TheVariants.{Dot, Arrow, Increment, Decrement, Ampersand, Star, Plus, Minus, Exclamation, Slash, Percent, ShiftLeft, ShiftRight, Less, Greater, LessEqual, GreaterEqual, Equal, NotEqual, Caret, Bar, AndAnd, OrOr, Ellipsis, Assign, StarAssign, SlashAssign, PercentAssign, PlusAssign, MinusAssign, ShiftLeftAssign, ShiftRightAssign, AmpersandAssign, CaretAssign, BarAssign, DotDot, Implies, Equivalent}
 use Rattle.c_lex.specs.declared.state.Context.{Context}
 use Rattle.c_lex.specs.declared.state.Context.TheVariants.{Code, LineAnnotation, BlockAnnotation}
 use Rattle.c_lex.specs.declared.state.Quote.{Quote}
 use Rattle.c_lex.specs.declared.state.Quote.TheVariants.{Character, Text}
 use Rattle.c_lex.specs.declared.state.State.{State}
 use Rattle.c_lex.specs.declared.state.State.TheVariants.{Start, White, Name, Backslash, AnnotationName, Number, Exponent, Mark, LessEqualEqual, LineComment, BlockComment, BlockStar, Comment, SkippedLine, Quoted, Escape, Closed, Other}
+use Rattle.c_lex.specs.Spellings.{last_byte, single_marks}
 use Rattle.c_lex.specs.Bytes.{is_white, is_digit, is_letter, is_name_start, is_name_byte, is_sign, is_exponent_letter}
 
 -- inside an annotation
@@ -19,15 +20,13 @@ is_inside BlockAnnotation = true
 
 -- ---- what a byte begins
 
--- a punctuator's first byte: [ ] ( ) { } . & * + - ~ ! / % < > ^ | ? : ; = , (C11 6.4.6)
+-- the punctuator of one byte that the byte is, if it is one
+unfoldable pub mark_in : List Punctuator → ℕ → State
+mark_in [] b = Other
+mark_in (p ∷ ps) b = cond (b == last_byte p) (Mark p) (mark_in ps b)
+
 unfoldable pub begin_mark : ℕ → State
-begin_mark b =
-    cond (b == 91) (Mark OpenBracket) (cond (b == 93) (Mark CloseBracket) (cond (b == 40) (Mark OpenParenthesis) (cond (b == 41) (Mark CloseParenthesis)
-    (cond (b == 123) (Mark OpenBrace) (cond (b == 125) (Mark CloseBrace) (cond (b == 46) (Mark Dot) (cond (b == 38) (Mark Ampersand)
-    (cond (b == 42) (Mark Star) (cond (b == 43) (Mark Plus) (cond (b == 45) (Mark Minus) (cond (b == 126) (Mark Tilde)
-    (cond (b == 33) (Mark Exclamation) (cond (b == 47) (Mark Slash) (cond (b == 37) (Mark Percent) (cond (b == 60) (Mark Less)
-    (cond (b == 62) (Mark Greater) (cond (b == 94) (Mark Caret) (cond (b == 124) (Mark Bar) (cond (b == 63) (Mark Question)
-    (cond (b == 58) (Mark Colon) (cond (b == 59) (Mark Semicolon) (cond (b == 61) (Mark Assign) (cond (b == 44) (Mark Comma) Other)))))))))))))))))))))))
+begin_mark b = mark_in single_marks b
 
 -- `#` skips its line, where only white space stands before it on the line
 abbrev pub begin_hash : Context → Bool → State
@@ -65,12 +64,19 @@ one b x p = cond (b == x) (Some (Mark p)) None
 abbrev pub two : ℕ → ℕ → Punctuator → ℕ → Punctuator → Option State
 two b x p y q = cond (b == x) (Some (Mark p)) (one b y q)
 
+-- by a byte to a longer punctuator, or to either of two
+abbrev pub to : ℕ → Punctuator → Option State
+to b p = one b (last_byte p) p
+
+abbrev pub to_either : ℕ → Punctuator → Punctuator → Option State
+to_either b p q = two b (last_byte p) p (last_byte q) q
+
 -- a dot before a digit begins a number
 unfoldable pub dot_goes : ℕ → Option State
-dot_goes b = cond (is_digit b) (Some Number) (one b 46 DotDot)
+dot_goes b = cond (is_digit b) (Some Number) (to b DotDot)
 
 unfoldable pub minus_goes : ℕ → Option State
-minus_goes b = cond (b == 62) (Some (Mark Arrow)) (two b 45 Decrement 61 MinusAssign)
+minus_goes b = cond (b == last_byte Arrow) (Some (Mark Arrow)) (to_either b Decrement MinusAssign)
 
 -- `//` begins a comment; `/*` begins one in the code alone
 unfoldable pub slash_goes : Context → ℕ → Option State
@@ -78,7 +84,7 @@ slash_goes c b = cond (b == 47) (Some LineComment) (cond (b == 61) (Some (Mark S
 
 -- `==>` inside annotations
 unfoldable pub equal_goes : Context → ℕ → Option State
-equal_goes c b = cond (is_inside c) (one b 62 Implies) None
+equal_goes c b = cond (is_inside c) (to b Implies) None
 
 -- `<==`, before `>`, inside annotations
 unfoldable pub less_equal_goes : Context → ℕ → Option State
@@ -87,20 +93,20 @@ less_equal_goes c b = when (b == 61 && is_inside c) LessEqualEqual
 -- how a punctuator goes on (C11 6.4.6)
 abbrev pub mark_goes : Context → Punctuator → ℕ → Option State
 mark_goes c Dot b = dot_goes b
-mark_goes c DotDot b = one b 46 Ellipsis
+mark_goes c DotDot b = to b Ellipsis
 mark_goes c Minus b = minus_goes b
-mark_goes c Plus b = two b 43 Increment 61 PlusAssign
-mark_goes c Ampersand b = two b 38 AndAnd 61 AmpersandAssign
-mark_goes c Bar b = two b 124 OrOr 61 BarAssign
-mark_goes c Less b = two b 60 ShiftLeft 61 LessEqual
-mark_goes c Greater b = two b 62 ShiftRight 61 GreaterEqual
-mark_goes c Star b = one b 61 StarAssign
-mark_goes c Percent b = one b 61 PercentAssign
-mark_goes c Caret b = one b 61 CaretAssign
-mark_goes c Exclamation b = one b 61 NotEqual
-mark_goes c ShiftLeft b = one b 61 ShiftLeftAssign
-mark_goes c ShiftRight b = one b 61 ShiftRightAssign
-mark_goes c Assign b = one b 61 Equal
+mark_goes c Plus b = to_either b Increment PlusAssign
+mark_goes c Ampersand b = to_either b AndAnd AmpersandAssign
+mark_goes c Bar b = to_either b OrOr BarAssign
+mark_goes c Less b = to_either b ShiftLeft LessEqual
+mark_goes c Greater b = to_either b ShiftRight GreaterEqual
+mark_goes c Star b = to b StarAssign
+mark_goes c Percent b = to b PercentAssign
+mark_goes c Caret b = to b CaretAssign
+mark_goes c Exclamation b = to b NotEqual
+mark_goes c ShiftLeft b = to b ShiftLeftAssign
+mark_goes c ShiftRight b = to b ShiftRightAssign
+mark_goes c Assign b = to b Equal
 mark_goes c Equal b = equal_goes c b
 mark_goes c LessEqual b = less_equal_goes c b
 mark_goes c Slash b = slash_goes c b
@@ -128,7 +134,7 @@ step c AnnotationName b before_dot = when (is_name_byte b) AnnotationName
 step c Number b before_dot = number_goes c b before_dot
 step c Exponent b before_dot = exponent_goes c b before_dot
 step c (Mark p) b before_dot = mark_goes c p b
-step c LessEqualEqual b before_dot = one b 62 Equivalent
+step c LessEqualEqual b before_dot = to b Equivalent
 step c LineComment b before_dot = when (not (b == 10)) LineComment
 step c BlockComment b before_dot = Some (comment_goes false b)
 step c BlockStar b before_dot = Some (comment_goes true b)

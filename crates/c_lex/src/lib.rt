@@ -14,6 +14,7 @@ mod cut;
 pub mod fault;
 mod meaning;
 mod number;
+pub mod punctuator;
 mod state;
 mod text;
 mod word;

@@ -70,7 +70,7 @@ impl Context {
 }
 
 // The punctuator that a byte begins.
-#[tactic(auto, unfolding(crate::specs::Pieces::begin_mark))]
+#[tactic(auto, unfolding(crate::specs::Pieces::begin_mark, crate::specs::Pieces::mark_in))]
 fn begin_with_mark(context: Context, byte: u8) -> State
     ensures value { result ≡ begin_mark byte }
     ensures whole { IsTrue (accepts context result) }
