@@ -221,10 +221,10 @@ never_too_many l count h = by_text l.text h
     by_meaning n s Blank e = cc
     by_meaning n s (Gives w) e = cc
     by_meaning n s (Annotates a) e = cc
-    by_meaning n s (Wrong BadByteFlaw) e = cc
-    by_meaning n s (Wrong OpenCommentFlaw) e = cc
-    by_meaning n s (Wrong OpenStringFlaw) e = cc
-    by_meaning n s (Wrong BadNumberFlaw) e = cc
+    by_meaning n s (Wrong BadByteFlaw k) e = cc
+    by_meaning n s (Wrong OpenCommentFlaw k) e = cc
+    by_meaning n s (Wrong OpenStringFlaw k) e = cc
+    by_meaning n s (Wrong BadNumberFlaw k) e = cc
 
     by_text : (text : List ℕ) → IsMoveBy l text (fails (TooMany count)) → ⊥
     by_text [] e = by_context l.context e

@@ -3,12 +3,10 @@ use Rattle.std.proofs.Common.{◌≡◌, ℕ, zero, suc, ◌+◌, ◌-◌, ◌<�
 use Rattle.std.proofs.lemmas.List.{drop-take, take_rest}
 use Rattle.std.proofs.lemmas.Bool.Decides.{nat_tests}
 use Rattle.c_prog.specs.declared.number.Span.{Span}
-use Rattle.c_prog.specs.declared.token.Word.{Word}
-use Rattle.c_prog.specs.declared.token.Word.TheVariants.{OpenAnnotation, CloseAnnotation}
+use Rattle.c_prog.specs.declared.token.Word.TheVariants.{OpenAnnotation, CloseAnnotation, Character as CharacterWord}
 use Rattle.c_prog.specs.declared.token.Keyword.{Keyword}
 use Rattle.c_prog.specs.declared.token.IntegerConstant.{IntegerConstant}
 use Rattle.c_lex.specs.declared.cut.Cursor.{Cursor}
-use Rattle.c_lex.specs.declared.fault.Flaw.{Flaw}
 use Rattle.c_lex.specs.declared.meaning.Meaning.{Meaning}
 use Rattle.c_lex.specs.declared.meaning.Meaning.TheVariants.{Blank, Gives, Annotates, Wrong}
 use Rattle.c_lex.specs.declared.state.Context.{Context}
@@ -16,13 +14,17 @@ use Rattle.c_lex.specs.declared.state.Context.TheVariants.{Code, LineAnnotation,
 use Rattle.c_lex.specs.declared.state.Quote.TheVariants.{Character, Text}
 use Rattle.c_lex.specs.declared.state.State.{State}
 use Rattle.c_lex.specs.declared.state.State.TheVariants.{Start, White, Name, Backslash, AnnotationName, Number, Exponent, Mark, LessEqualEqual, LineComment, BlockComment, BlockStar, Comment, SkippedLine, Quoted, Escape, Closed, Other}
-use Rattle.c_lex.specs.Meanings.{closing, fault_of, meaning, comment_meaning, name_meaning, keyword_or_name, integer_or, number_meaning, string_with, text_meaning, one_character, character_with, character_meaning}
+use Rattle.c_lex.specs.Meanings.{closing, fault_of, meaning, comment_meaning, name_meaning, keyword_or_name, integer_or, number_meaning, string_with, text_meaning, single, single_escape, character_in, character_meaning}
 use Rattle.c_lex.specs.Numbers.{integer_of, is_floating}
-use Rattle.c_lex.specs.Texts.{contents, inner}
+use Rattle.c_lex.specs.Texts.{escape, contents, inner}
+use Rattle.c_lex.specs.declared.text.Contents.{Contents}
+use Rattle.c_lex.specs.declared.text.Contents.TheVariants.{Bytes, WrongAt}
+use Rattle.c_lex.specs.declared.text.Escaped.{Escaped}
+use Rattle.c_lex.specs.declared.fault.Flaw.TheVariants.{BadByte}
 use Rattle.c_lex.specs.Words.{keyword_of, is_dropped}
 use Rattle.c_lex.specs.Pieces.{is_inside, IsLongest}
-use Rattle.c_lex.specs.Tokens.{Left, Move, ends, fails, gives, skips, IsMove, IsMoveBy, move_at_end, IsOver, behind, inside, outside, annotated, token, after, after_all, move_over}
-use Rattle.c_lex.specs.Cursors.{over_cursor, inside_cursor, outside_cursor, step_of, step_at_end, FitsMeaning, left_of, IsCursor, moves_left, IsNext, IsStep}
+use Rattle.c_lex.specs.Tokens.{Left, Move, ends, fails, gives, skips, IsMove, IsMoveBy, move_at_end, IsOver, behind, inside, outside, annotated, token, further, after, after_all, move_over}
+use Rattle.c_lex.specs.Cursors.{over_cursor, inside_cursor, outside_cursor, step_of, step_at_end, left_of, IsCursor, moves_left, IsNext, IsStep}
 use Rattle.c_lex.proofs.Places.{within_line}
 
 -- ---- annotations
@@ -53,23 +55,36 @@ number_never text a e = by_cases (integer_of text) (is_floating text) e
 
 text_never : (text : List ℕ) (a : Context) → text_meaning text ≡ Annotates a → ⊥
 unfolding text_meaning
-text_never text a e = by_cases (contents 0 (inner text)) e
+text_never text a e = by_cases (contents 0 0 (inner text)) e
   where
-    by_cases : (o : Option (List ℕ)) → string_with o ≡ Annotates a → ⊥
-    by_cases None e = cc
-    by_cases (Some bytes) e = cc
+    by_cases : (o : Contents) → string_with o ≡ Annotates a → ⊥
+    by_cases (WrongAt n) e = cc
+    by_cases (Bytes bytes) e = cc
 
-flawed_never : (b : Bool) (w : Word) (f : Flaw) (a : Context) → cond b (Gives w) (Wrong f) ≡ Annotates a → ⊥
-flawed_never true w f a e = cc
-flawed_never false w f a e = cc
+single_never : (v n size : ℕ) (a : Context) → single v n size ≡ Annotates a → ⊥
+single_never v n size a e = by_test (n == size) e
+  where
+    by_test : (b : Bool) → cond b (Gives (CharacterWord v)) (Wrong BadByte (1 + n)) ≡ Annotates a → ⊥
+    by_test true e = cc
+    by_test false e = cc
+
+escape_never : (o : Option Escaped) (size : ℕ) (a : Context) → single_escape o size ≡ Annotates a → ⊥
+escape_never None size a e = cc
+escape_never (Some x) size a e = single_never x.value (1 + x.length) size a e
 
 character_never : (text : List ℕ) (a : Context) → character_meaning text ≡ Annotates a → ⊥
-unfolding character_meaning one_character
-character_never text a e = by_cases (contents 0 (inner text)) e
+unfolding character_meaning character_in
+character_never text a e =
+    by_tests (length (inner text) == 0) (get_or (inner text) 0 0 == 92) (nat_lt (get_or (inner text) 0 0) 128) (single_escape (escape (drop 1 (inner text))) (length (inner text)))
+    (single (get_or (inner text) 0 0) 1 (length (inner text))) (escape_never (escape (drop 1 (inner text))) (length (inner text)) a)
+    (single_never (get_or (inner text) 0 0) 1 (length (inner text)) a) e
   where
-    by_cases : (o : Option (List ℕ)) → character_with (get_or (inner text) 0 0) o ≡ Annotates a → ⊥
-    by_cases None e = cc
-    by_cases (Some bytes) e = flawed_never _ _ _ a e
+    by_tests : (none slash small : Bool) (m n : Meaning) → (m ≡ Annotates a → ⊥) → (n ≡ Annotates a → ⊥) →
+        cond none (Wrong BadByte 1) (cond slash m (cond small n (Wrong BadByte 1))) ≡ Annotates a → ⊥
+    by_tests true slash small m n h k e = cc
+    by_tests false true small m n h k e = h e
+    by_tests false false true m n h k e = k e
+    by_tests false false false m n h k e = cc
 
 comment_fits : (c a : Context) (text : List ℕ) (b : Context) → is_inside a ≡ true → comment_meaning c a text ≡ Annotates b → FitsAnnotation c text b
 unfolding comment_meaning
@@ -105,12 +120,6 @@ annotation_fits c (Escape q) text a e = absurd (cc)
 annotation_fits c (Closed Text) text a e = absurd (text_never text a e)
 annotation_fits c (Closed Character) text a e = absurd (character_never text a e)
 annotation_fits c Other text a e = absurd (cc)
-
-pub meaning_fits : (c : Context) (s : State) (text : List ℕ) (m : Meaning) → m ≡ meaning c s text → FitsMeaning text m
-meaning_fits c s text Blank e = tt
-meaning_fits c s text (Gives w) e = tt
-meaning_fits c s text (Annotates a) e = (annotation_fits c s text a (sym e)).room
-meaning_fits c s text (Wrong flaw) e = tt
 
 -- ---- parts of the bytes
 
@@ -343,7 +352,7 @@ step_at_front bytes c n s m f e = by_meaning m e
           valid = inside_valid bytes c n s a f room fit.annotation;
           less = inside_less bytes c n s a f room;
         }
-    by_meaning (Wrong flaw) e = moves (Wrong flaw) (fails (fault_of flaw c.at)) e refl
+    by_meaning (Wrong flaw k) e = moves (Wrong flaw k) (fails (fault_of flaw (further c.at k))) e refl
 
 pub step_is : (bytes : List ℕ) (c : Cursor) (n : ℕ) (s : State) (text piece : List ℕ) (m : Meaning) → IsCursor bytes c →
     text ≡ take (c.end - c.next) (drop c.next bytes) → IsLongest c.context c.fresh text n s → 0 < n → piece ≡ take n text →

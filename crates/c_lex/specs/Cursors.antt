@@ -33,18 +33,11 @@ abbrev pub step_of : Cursor → State → List ℕ → Meaning → Step
 step_of c s piece Blank = Skip (over_cursor c s piece)
 step_of c s piece (Gives w) = Give (token w c.at) (over_cursor c s piece)
 step_of c s piece (Annotates a) = Give (token OpenAnnotation c.at) (inside_cursor c a (length piece))
-step_of c s piece (Wrong flaw) = Fault (fault_of flaw c.at)
+step_of c s piece (Wrong flaw n) = Fault (fault_of flaw (further c.at n))
 
 -- what comes where the text is used up
 abbrev pub step_at_end : Cursor → ℕ → Step
 step_at_end c n = cond (is_inside c.context) (Give (token CloseAnnotation c.at) (outside_cursor c n)) End
-
--- an annotation has room for what opens and closes it
-abbrev pub FitsMeaning : List ℕ → Meaning → Type 0
-FitsMeaning piece Blank = Unit {0}
-FitsMeaning piece (Gives w) = Unit {0}
-FitsMeaning piece (Annotates a) = 3 + length (closing a) ≤ length piece
-FitsMeaning piece (Wrong flaw) = Unit {0}
 
 -- what is left of the bytes
 abbrev pub left_of : List ℕ → Cursor → Left

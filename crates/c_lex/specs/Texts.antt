@@ -1,8 +1,9 @@
 -- Character constants and string literals (C11 6.4.4.4, 6.4.5).
-use Rattle.std.specs.Prelude.{ℕ, zero, suc, ◌+◌, ◌-◌, ◌==◌, nat_le, cond, List, [], ◌∷◌, length, slice_index, take, drop, Option, None, Some}
-use Rattle.std.specs.Option.{option_map, option_and_then}
+use Rattle.std.specs.Prelude.{ℕ, zero, suc, ◌+◌, ◌-◌, ◌<◌, ◌==◌, nat_le, cond, List, [], ◌∷◌, length, slice_index, take, drop, Option, None, Some}
 use Rattle.c_prog.specs.declared.token.Radix.TheVariants.{Octal, Hexadecimal}
 use Rattle.c_lex.specs.declared.text.Escaped.{Escaped}
+use Rattle.c_lex.specs.declared.text.Contents.{Contents}
+use Rattle.c_lex.specs.declared.text.Contents.TheVariants.{Bytes, WrongAt}
 use Rattle.c_lex.specs.Numbers.{digits_at, value_of}
 
 -- \' \" \? \\ \a \b \t \n \v \f \r
@@ -32,12 +33,26 @@ escape text =
     let n = digits_at Octal (take 3 text) in
     cond (n == 0) (cond (slice_index text 0 == 120) (escape_hexadecimal text) (simple_with (simple (slice_index text 0)))) (numeric (value_of Octal (take n text)) n)
 
--- The bytes for which a text between quotes stands, or nothing where an escape in it is wrong. The first `skip` bytes of the text belong to an escape.
-unfoldable pub contents : ℕ → List ℕ → Option (List ℕ)
-contents skip [] = Some []
-contents (suc skip) (b ∷ bs) = contents skip bs
-contents zero (b ∷ bs) =
-    cond (b == 92) (option_and_then (λ e. option_map (λ more. e.value ∷ more) (contents e.length bs)) (escape bs)) (option_map (λ more. b ∷ more) (contents zero bs))
+-- one byte more in front
+abbrev pub prepend : ℕ → Contents → Contents
+prepend b (Bytes more) = Bytes (b ∷ more)
+prepend b (WrongAt n) = WrongAt n
+
+-- what an escape gives, whose `\` stands at an index
+abbrev pub with_escape : ℕ → (ℕ → Contents) → Option Escaped → Contents
+with_escape at behind None = WrongAt at
+with_escape at behind (Some e) = prepend e.value (behind e.length)
+
+-- The bytes for which a text between quotes stands, or where its first wrong escape has its `\`. The text begins at an index, and its first `skip` bytes belong to an escape.
+unfoldable pub contents : ℕ → ℕ → List ℕ → Contents
+contents skip at [] = Bytes []
+contents (suc skip) at (b ∷ bs) = contents skip (suc at) bs
+contents zero at (b ∷ bs) = cond (b == 92) (with_escape at (λ n. contents n (suc at) bs) (escape bs)) (prepend b (contents zero (suc at) bs))
+
+-- a wrong escape stands in the text
+abbrev pub IsWithin : ℕ → Contents → Type 0
+IsWithin size (Bytes bytes) = Unit {0}
+IsWithin size (WrongAt n) = n < size
 
 -- what stands between the quotes
 abbrev pub inner : List ℕ → List ℕ

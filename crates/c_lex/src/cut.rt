@@ -1,7 +1,7 @@
 //! One piece after the other.
 ghost use Rattle.std.specs.Prelude.{◌≡◌, ◌+◌, ◌-◌, ◌<◌, ◌≤◌, ◌^◌, cond, length, take, drop, IfOk};
-ghost use Rattle.c_lex.specs.Cursors.{start_cursor, over_cursor, inside_cursor, outside_cursor, step_of, step_at_end, FitsMeaning, IsCursor, IsStep};
-ghost use Rattle.c_lex.specs.Meanings.{closing};
+ghost use Rattle.c_lex.specs.Cursors.{start_cursor, over_cursor, inside_cursor, outside_cursor, step_of, step_at_end, IsCursor, IsStep};
+ghost use Rattle.c_lex.specs.Meanings.{closing, FitsMeaning};
 ghost use Rattle.c_lex.specs.Pieces.{accepts, IsLongest};
 ghost use Rattle.c_lex.specs.Tokens.{after, after_all, is_fresh};
 
@@ -229,7 +229,10 @@ fn step_over(cursor: &Cursor, state: State, piece: &[u8], meaning: Meaning) -> S
             },
             cursor.inside(annotation, piece.len()),
         ),
-        Meaning::Wrong(flaw) => Step::Fault(flaw.at(cursor.at)),
+        Meaning::Wrong(flaw, offset) => Step::Fault(flaw.at(Span {
+            line: cursor.at.line,
+            col: cursor.at.col + offset as u32,
+        })),
     }
 }
 

@@ -1,11 +1,11 @@
 //! Character constants and string literals (C11 6.4.4.4, 6.4.5).
-ghost use Rattle.std.specs.Prelude.{◌≡◌, ◌≤◌, length, IfOk, IfSome};
-ghost use Rattle.std.specs.Option.{option_map};
-ghost use Rattle.c_lex.specs.Texts.{simple, numeric, escape_hexadecimal, escape, contents, inner};
+ghost use Rattle.std.specs.Prelude.{◌≡◌, ◌+◌, ◌<◌, ◌≤◌, length, IfOk, IfSome};
+ghost use Rattle.c_lex.specs.Texts.{simple, numeric, escape_hexadecimal, escape, contents, inner, IsWithin};
 
 use crate::bytes::{before, behind, byte_at};
 use crate::number::{count_digits, read_digits};
 use c_prog::token::Radix;
+use sqlite_items::Items;
 use std::alloc::{AllocError, Global};
 
 /// An escape: the byte that it stands for, and how many bytes it has behind its `\`.
@@ -70,7 +70,7 @@ fn hexadecimal_escape(text: &[u8]) -> Option<Escaped>
 
 /// The escape whose `\` stands directly before the text.
 #[tactic(auto, unfolding(crate::specs::Texts::escape))]
-fn read_escape(text: &[u8]) -> Option<Escaped>
+pub fn read_escape(text: &[u8]) -> Option<Escaped>
     ensures value { result ≡ escape text.now }
     ensures within { IfSome result (λ e. e.length ≤ length text.now) }
 {
@@ -88,9 +88,17 @@ fn read_escape(text: &[u8]) -> Option<Escaped>
     }
 }
 
-/// The bytes for which a text between quotes stands, or nothing where an escape in it is wrong.
-pub fn read_contents(alloc: Global, text: &[u8]) -> Result<Option<Vec<u8>>, AllocError>
-    ensures { IfOk result (λ found. option_map (λ v. v.items) found ≡ contents 0 text.now) }
+/// What a text between quotes stands for: its bytes, or where the first escape that is wrong has its `\\`.
+#[derive(Debug, Drop)]
+pub enum Contents {
+    Bytes(Items<u8>),
+    WrongAt(usize),
+}
+
+/// What a text between quotes stands for.
+pub fn read_contents(alloc: Global, text: &[u8]) -> Result<Contents, AllocError>
+    ensures value { IfOk result (λ found. found ≡ contents 0 0 text.now) }
+    ensures within { IfOk result (IsWithin (length text.now)) }
 {
     let mut bytes = Vec::new(alloc);
     let mut next = 0;
@@ -98,7 +106,7 @@ pub fn read_contents(alloc: Global, text: &[u8]) -> Result<Option<Vec<u8>>, Allo
         let byte = text[next];
         if byte == b'\\' {
             match read_escape(behind(text, next + 1)) {
-                None => return Ok(None),
+                None => return Ok(Contents::WrongAt(next)),
                 Some(escaped) => {
                     bytes.push(escaped.value)?;
                     next += 1 + escaped.length;
@@ -109,12 +117,13 @@ pub fn read_contents(alloc: Global, text: &[u8]) -> Result<Option<Vec<u8>>, Allo
             next += 1;
         }
     }
-    Ok(Some(bytes))
+    Ok(Contents::Bytes(Items::from_vec(bytes)))
 }
 
 /// What stands between the quotes of a constant.
 pub fn between_quotes(text: &[u8]) -> &[u8]
-    ensures { result.now ≡ inner text.now }
+    ensures value { result.now ≡ inner text.now }
+    ensures within { 0 < length text.now → length result.now + 1 ≤ length text.now }
 {
     before(behind(text, 1), text.len().saturating_sub(2))
 }
