@@ -1,0 +1,11 @@
+pub mod Bytes
+pub mod Spellings
+pub mod Pieces
+pub mod Marks
+pub mod Numbers
+pub mod Texts
+pub mod Words
+pub mod Meanings
+pub mod Tokens
+pub mod Lexing
+pub mod Cursors

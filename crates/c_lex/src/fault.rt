@@ -1,0 +1,62 @@
+//! Why the bytes of a file are no tokens.
+ghost use Rattle.std.specs.Prelude.{◌≡◌};
+ghost use Rattle.c_lex.specs.declared.fault.LexFault.TheVariants.{Memory};
+ghost use Rattle.c_lex.specs.Meanings.{fault_of};
+
+use c_prog::number::Span;
+use std::alloc::AllocError;
+use thiserror::Error;
+
+/// What is wrong with a piece.
+#[derive(Clone, Copy, Debug, PartialEq, Eq)]
+pub enum Flaw {
+    BadByte,
+    OpenComment,
+    OpenString,
+    BadNumber,
+}
+
+/// Why a file has no tokens, or none that are returned; `at` is the place of the first piece that is none.
+#[derive(Clone, Copy, Debug, PartialEq, Eq, Error)]
+pub enum LexFault {
+    /// A byte that begins no token, or a constant between quotes with a wrong escape or, as a character, with other than one byte (C11 6.4.4.4, 6.4.5).
+    #[error("{}:{}: bad byte", .at.line, .at.col)]
+    BadByte { at: Span },
+    /// A comment or an annotation without its `*/` (C11 6.4.9).
+    #[error("{}:{}: comment without end", .at.line, .at.col)]
+    OpenComment { at: Span },
+    /// A string or character constant without its closing quote on its line (C11 6.4.4.4, 6.4.5).
+    #[error("{}:{}: string or character without end", .at.line, .at.col)]
+    OpenString { at: Span },
+    /// A number that is no constant, or an integer of 2^128 or more (C11 6.4.4.1, 6.4.4.2).
+    #[error("{}:{}: bad number", .at.line, .at.col)]
+    BadNumber { at: Span },
+    /// There are more than 2,000,000 tokens: so many.
+    #[error("{count} tokens are too many")]
+    TooMany { count: u64 },
+    /// Memory was wanting.
+    #[error("out of memory")]
+    Memory,
+}
+
+impl From<AllocError> for LexFault {
+    ghost from_gives = { λ _ fault. fault ≡ Memory };
+
+    fn from(_error: AllocError) -> LexFault {
+        LexFault::Memory
+    }
+}
+
+impl Flaw {
+    /// The fault of a piece at a place.
+    pub fn at(self, at: Span) -> LexFault
+        ensures { result ≡ fault_of self at }
+    {
+        match self {
+            Flaw::BadByte => LexFault::BadByte { at },
+            Flaw::OpenComment => LexFault::OpenComment { at },
+            Flaw::OpenString => LexFault::OpenString { at },
+            Flaw::BadNumber => LexFault::BadNumber { at },
+        }
+    }
+}
