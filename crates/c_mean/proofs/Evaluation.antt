@@ -1,7 +1,6 @@
 -- The machine on programs whose objects are variables of type int, without the cells: what a variable holds is a number, or nothing yet.
-use Rattle.std.proofs.Common.{◌≡◌, ◌≢◌, ℕ, zero, suc, ◌<◌, ◌≤◌, ◌==◌, Bool, true, false, cond, List, [], ◌∷◌, Option, None, Some, Ok, Err, refl, ◌∙◌, ap, arith}
+use Rattle.std.proofs.Common.{◌≡◌, ℕ, zero, suc, ◌<◌, ◌≤◌, ◌==◌, Bool, true, false, cond, List, [], ◌∷◌, Option, None, Some, Ok, Err, refl, ◌∙◌, ap, arith}
 use Rattle.std.specs.Prelude.{ℤ, MatchResult}
-use Rattle.std.proofs.lemmas.Bool.Decides.{nat_tests}
 use Rattle.c_prog.specs.declared.tree.IntKind.TheVariants.{Int}
 use Rattle.c_prog.specs.declared.kind.Kind.{Kind}
 use Rattle.c_prog.specs.declared.kind.Kind.TheVariants.{Initialization}

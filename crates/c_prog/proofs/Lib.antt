@@ -1,3 +1,6 @@
 pub mod Tests
 pub mod Bits
 pub mod IntMemory
+pub mod Residues
+pub mod Patterns
+pub mod Products

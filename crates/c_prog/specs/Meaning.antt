@@ -1,5 +1,5 @@
 -- The typed program that a `Program` of the source stands for.
-use Rattle.std.specs.Prelude.{ℕ, suc, ◌+◌, Bool, true, false, List, [], ◌∷◌, length, pos, map}
+use Rattle.std.specs.Prelude.{ℕ, suc, ◌+◌, true, false, List, [], ◌∷◌, length, pos, map}
 use Rattle.c_prog.specs.declared.tree.BinOp.{BinOp}
 use Rattle.c_prog.specs.declared.tree.BinOp.TheVariants.{Add, Sub, Lt, Le, Gt, Ge, Eq, Ne}
 use Rattle.c_prog.specs.declared.tree.IntKind.TheVariants.{Int}
