@@ -4,3 +4,4 @@ pub mod IntMemory
 pub mod Residues
 pub mod Patterns
 pub mod Products
+pub mod KindSets

@@ -7,3 +7,4 @@ pub mod Rows
 pub mod Syntax
 pub mod Source
 pub mod Meaning
+pub mod KindSets
