@@ -2,3 +2,5 @@ pub mod Runs
 pub mod Evaluation
 pub mod Cells
 pub mod Histories
+pub mod Singles
+pub mod Within

@@ -1,3 +1,4 @@
 pub mod Machine
 pub mod Views
 pub mod Evaluation
+pub mod Wide

@@ -4,7 +4,7 @@ use Rattle.std.specs.List.{list_any}
 use Rattle.std.specs.FinSet.{contains, union}
 use Rattle.c_prog.specs.declared.tree.IntKind.{IntKind}
 use Rattle.c_prog.specs.declared.tree.BinOp.{BinOp}
-use Rattle.c_prog.specs.declared.tree.BinOp.TheVariants.{Add, Sub, Lt, Le, Gt, Ge, Eq, Ne}
+use Rattle.c_prog.specs.declared.tree.BinOp.TheVariants.{Add, Sub, Mul, Div, Rem, And, Or, Xor, Shl, Shr, Lt, Le, Gt, Ge, Eq, Ne}
 use Rattle.c_prog.specs.declared.kind.Kind.{Kind}
 use Rattle.c_prog.specs.declared.kind.Kind.TheVariants.{Initialization, DanglingPointer}
 use Rattle.c_prog.specs.Values.{Value, plain, Provenance, nowhere, Cell}
@@ -39,6 +39,14 @@ truth_of v = not (is_zero v.number)
 abbrev pub is_comparison : BinOp → Bool
 is_comparison Add = false
 is_comparison Sub = false
+is_comparison Mul = false
+is_comparison Div = false
+is_comparison Rem = false
+is_comparison And = false
+is_comparison Or = false
+is_comparison Xor = false
+is_comparison Shl = false
+is_comparison Shr = false
 is_comparison Lt = true
 is_comparison Le = true
 is_comparison Gt = true

@@ -3,8 +3,6 @@ use Rattle.std.specs.Prelude.{ℕ, false, List, [], ◌∷◌, ℤ, pos, negsuc,
 use Rattle.std.specs.FinSet.{from_list}
 use Rattle.c_mean.specs.declared.number.Number.{Number}
 use Rattle.c_mean.specs.declared.number.Number.TheVariants.{Natural, Negative}
-use Rattle.c_mean.specs.declared.number.Wide.{Wide}
-use Rattle.c_mean.specs.declared.number.Wide.TheVariants.{Natural as WideNatural, Negative as WideNegative}
 use Rattle.c_mean.specs.declared.tree.Expr.{Expr as CodeExpr}
 use Rattle.c_mean.specs.declared.tree.Expr.TheVariants.{Number as CodeNumber, Load as CodeLoad, Binary' as CodeBinary, Assign' as CodeAssign}
 use Rattle.c_mean.specs.declared.tree.Stmt.{Stmt as CodeStmt}
@@ -38,18 +36,10 @@ abbrev pub number_of : Number → ℤ
 number_of (Natural n) = pos n
 number_of (Negative n) = negsuc n
 
-abbrev pub wide_of : Wide → ℤ
-wide_of (WideNatural n) = pos n
-wide_of (WideNegative n) = negsuc n
-
 -- a number, or why there is none
 abbrev pub number_result_of : Result Number Kind → Result ℤ Kind
 number_result_of (Ok n) = Ok (number_of n)
 number_result_of (Err kind) = Err kind
-
-abbrev pub fitting_of : Option Number → Option ℤ
-fitting_of None = None
-fitting_of (Some n) = Some (number_of n)
 
 abbrev pub expr_of : CodeExpr → Expr
 expr_of (CodeNumber kind n) = NumberExpr kind (number_of n)

@@ -5,6 +5,9 @@ pub mod layout;
 pub mod machine;
 pub mod memory;
 pub mod number;
+#[cfg(test)]
+mod operator_tests;
+pub mod operators;
 pub mod stack;
 #[cfg(test)]
 mod tests;

@@ -4,8 +4,10 @@ ghost use Rattle.std.specs.Prelude.{◌≡◌, ◌<◌, ◌≤◌, ◌^◌, ◌*
 ghost use Rattle.c_prog.specs.Integers as integers;
 ghost use Rattle.c_prog.specs.Operators as operators;
 ghost use Rattle.c_mean.specs.Machine as machine;
-ghost use Rattle.c_mean.specs.Views.{number_of, wide_of, number_result_of, fitting_of};
+ghost use Rattle.c_mean.specs.Views.{number_of, number_result_of};
+ghost use Rattle.c_mean.specs.Wide.{IsOperand};
 
+use crate::operators::compute;
 use c_prog::kind::Kind;
 use c_prog::tree::{BinOp, IntKind};
 
@@ -16,97 +18,25 @@ pub enum Number {
     Negative(u64),
 }
 
-/// A sum or difference of two such numbers, seen in the same way.
-#[derive(Clone, Copy, Debug, PartialEq, Eq)]
-pub enum Wide {
-    Natural(u128),
-    Negative(u128),
+/// The number itself.
+fn wide(n: Number) -> i128
+    ensures value { result ≡ number_of n }
+    ensures within { IsOperand result }
+{
+    match n {
+        Number::Natural(x) => x as i128,
+        Number::Negative(x) => -1 - x as i128,
+    }
 }
 
-/// a - b
-fn gap(a: u128, b: u128) -> Wide
-    ensures { wide_of result ≡ pos a -ℤ pos b }
+fn from_wide(n: i128) -> Number
+    requires { IsOperand n }
+    ensures { number_of result ≡ n }
 {
-    if a < b {
-        Wide::Negative(b - a - 1)
+    if n < 0 {
+        Number::Negative((-1 - n) as u64)
     } else {
-        Wide::Natural(a - b)
-    }
-}
-
-fn sum(a: Number, b: Number) -> Wide
-    ensures { wide_of result ≡ number_of a +ℤ number_of b }
-{
-    match a {
-        Number::Natural(x) => {
-            match b {
-                Number::Natural(y) => Wide::Natural(x as u128 + y as u128),
-                Number::Negative(y) => gap(x as u128, y as u128 + 1),
-            }
-        }
-        Number::Negative(x) => {
-            match b {
-                Number::Natural(y) => gap(y as u128, x as u128 + 1),
-                Number::Negative(y) => Wide::Negative(x as u128 + y as u128 + 1),
-            }
-        }
-    }
-}
-
-fn difference(a: Number, b: Number) -> Wide
-    ensures { wide_of result ≡ number_of a -ℤ number_of b }
-{
-    match a {
-        Number::Natural(x) => {
-            match b {
-                Number::Natural(y) => gap(x as u128, y as u128),
-                Number::Negative(y) => Wide::Natural(x as u128 + y as u128 + 1),
-            }
-        }
-        Number::Negative(x) => {
-            match b {
-                Number::Natural(y) => Wide::Negative(x as u128 + y as u128),
-                Number::Negative(y) => gap(y as u128, x as u128),
-            }
-        }
-    }
-}
-
-fn is_less(a: Number, b: Number) -> bool
-    ensures { result ≡ int_lt (number_of a) (number_of b) }
-{
-    match a {
-        Number::Natural(x) => {
-            match b {
-                Number::Natural(y) => x < y,
-                Number::Negative(_) => false,
-            }
-        }
-        Number::Negative(x) => {
-            match b {
-                Number::Natural(_) => true,
-                Number::Negative(y) => y < x,
-            }
-        }
-    }
-}
-
-fn is_at_most(a: Number, b: Number) -> bool
-    ensures { result ≡ int_le (number_of a) (number_of b) }
-{
-    match a {
-        Number::Natural(x) => {
-            match b {
-                Number::Natural(y) => x <= y,
-                Number::Negative(_) => false,
-            }
-        }
-        Number::Negative(x) => {
-            match b {
-                Number::Natural(_) => true,
-                Number::Negative(y) => y <= x,
-            }
-        }
+        Number::Natural(n as u64)
     }
 }
 
@@ -123,7 +53,8 @@ pub(crate) fn is_comparison(op: BinOp) -> bool
     ensures { result ≡ machine.is_comparison op }
 {
     match op {
-        BinOp::Add | BinOp::Sub => false,
+        BinOp::Add | BinOp::Sub | BinOp::Mul | BinOp::Div | BinOp::Rem => false,
+        BinOp::And | BinOp::Or | BinOp::Xor | BinOp::Shl | BinOp::Shr => false,
         BinOp::Lt | BinOp::Le | BinOp::Gt | BinOp::Ge | BinOp::Eq | BinOp::Ne => true,
     }
 }
@@ -181,46 +112,14 @@ fn greatest(kind: IntKind) -> u64
     }
 }
 
-/// The number, if the type can hold it.
-fn fitting(kind: IntKind, n: Wide) -> Option<Number>
-    ensures { fitting_of result ≡ cond (integers.fits_kind kind (wide_of n)) (Some (wide_of n)) None }
-{
-    let greatest = greatest(kind);
-    match n {
-        Wide::Natural(x) => {
-            if x <= greatest as u128 {
-                Some(Number::Natural(x as u64))
-            } else {
-                None
-            }
-        }
-        Wide::Negative(x) => {
-            if is_signed(kind) && x <= greatest as u128 {
-                Some(Number::Negative(x as u64))
-            } else {
-                None
-            }
-        }
-    }
-}
-
 /// The pattern of bits that stands for the number in two's complement.
-fn residue(kind: IntKind, n: Wide) -> u64
-    ensures { result ≡ integers.residue (2 ^ integers.bits_of_kind kind) (wide_of n) }
-{
-    let patterns = patterns(kind);
-    match n {
-        Wide::Natural(x) => (x % patterns) as u64,
-        Wide::Negative(x) => (patterns - 1 - x % patterns) as u64,
-    }
-}
-
 pub(crate) fn pattern_of(kind: IntKind, n: Number) -> u64
     ensures { result ≡ integers.residue (2 ^ integers.bits_of_kind kind) (number_of n) }
 {
+    let patterns = patterns(kind);
     match n {
-        Number::Natural(x) => residue(kind, Wide::Natural(x as u128)),
-        Number::Negative(x) => residue(kind, Wide::Negative(x as u128)),
+        Number::Natural(x) => (x as u128 % patterns) as u64,
+        Number::Negative(x) => (patterns - 1 - x as u128 % patterns) as u64,
     }
 }
 
@@ -238,39 +137,12 @@ pub(crate) fn number_in(kind: IntKind, pattern: u64) -> Number
     Number::Natural(pattern)
 }
 
-fn arithmetic(kind: IntKind, n: Wide) -> Result<Number, Kind>
-    ensures { number_result_of result ≡ operators.arithmetic kind (wide_of n) }
-{
-    match fitting(kind, n) {
-        Some(number) => Ok(number),
-        None => {
-            if is_signed(kind) {
-                Err(Kind::SignedOverflow)
-            } else {
-                Ok(Number::Natural(residue(kind, n)))
-            }
-        }
-    }
-}
-
-fn truth_number(truth: bool) -> Number
-    ensures { number_of result ≡ operators.truth_number truth }
-{
-    Number::Natural(if truth { 1 } else { 0 })
-}
-
 /// What the operator gives, or the kind of its undefined step.
 pub(crate) fn computed(op: BinOp, kind: IntKind, a: Number, b: Number) -> Result<Number, Kind>
     ensures { number_result_of result ≡ operators.computed op kind (number_of a) (number_of b) }
 {
-    match op {
-        BinOp::Add => arithmetic(kind, sum(a, b)),
-        BinOp::Sub => arithmetic(kind, difference(a, b)),
-        BinOp::Lt => Ok(truth_number(is_less(a, b))),
-        BinOp::Le => Ok(truth_number(is_at_most(a, b))),
-        BinOp::Gt => Ok(truth_number(is_less(b, a))),
-        BinOp::Ge => Ok(truth_number(is_at_most(b, a))),
-        BinOp::Eq => Ok(truth_number(is_at_most(a, b) && is_at_most(b, a))),
-        BinOp::Ne => Ok(truth_number(!(is_at_most(a, b) && is_at_most(b, a)))),
+    match compute(op, kind, wide(a), wide(b)) {
+        Ok(n) => Ok(from_wide(n)),
+        Err(undefined) => Err(undefined),
     }
 }

@@ -1,6 +1,8 @@
 -- C's integer types: their sizes, their ranges, and the numbers that patterns of bits stand for in them.
-use Rattle.std.specs.Prelude.{ℕ, zero, suc, ◌+◌, ◌-◌, ◌*◌, ◌/◌, ◌%◌, ◌^◌, ◌==◌, nat_lt, Bool, true, false, cond, ◌&&◌, List, [], ◌∷◌, ℤ, pos, negsuc, int_le}
+use Rattle.std.specs.Prelude.{ℕ, zero, suc, ◌+◌, ◌-◌, ◌*◌, ◌/◌, ◌%◌, ◌^◌, ◌==◌, nat_lt, Bool, true, false, cond, ◌&&◌, List, [], ◌∷◌, ℤ, pos, negsuc, int_le, ◌≤ℤ◌}
 use Rattle.c_prog.specs.declared.tree.IntKind.{IntKind}
+use Rattle.c_prog.specs.declared.tree.Machine.{Machine}
+use Rattle.c_prog.specs.declared.tree.Machine.TheVariants.{Lp64}
 use Rattle.c_prog.specs.declared.tree.IntKind.TheVariants.{Bool as bool_kind, Char, SChar, UChar, Short, UShort, Int, UInt, Long, ULong, LLong, ULLong}
 
 -- bytes of an object of the type (C11 6.2.6.1; LP64, as on x86-64)
@@ -57,6 +59,23 @@ greatest kind = greatest_of (is_signed kind) (bits_of_kind kind)
 abbrev pub fits_kind : IntKind → ℤ → Bool
 fits_kind kind n = int_le (least kind) n && int_le n (greatest kind)
 
+-- the same for a type of so many bits, with or without a sign
+abbrev pub fits_bits : Bool → ℕ → ℤ → Bool
+fits_bits signed bits n = int_le (least_of signed bits) n && int_le n (greatest_of signed bits)
+
+pub record FitsBits (signed : Bool) (bits : ℕ) (n : ℤ) : Type 0 where
+  pub least : least_of signed bits ≤ℤ n
+  pub greatest : n ≤ℤ greatest_of signed bits
+
+-- the sign bit and the value bits of the type (C11 6.2.6.2p6); a _Bool has one value bit
+abbrev pub width_of : IntKind → Machine → ℕ
+width_of bool_kind Lp64 = 1
+width_of kind Lp64 = bits_of_kind kind
+
+-- the type can hold the number on the machine
+abbrev pub FitsKind : IntKind → Machine → ℤ → Type 0
+FitsKind kind machine n = FitsBits (is_signed kind) (width_of kind machine) n
+
 -- the residue of a number, from 0 to m - 1
 abbrev pub residue : ℕ → ℤ → ℕ
 residue m (pos n) = n % m
@@ -81,3 +100,7 @@ signed_number true bits n = cond (nat_lt n (2 ^ (bits - 1))) (pos n) (negsuc (2 
 abbrev pub number_in : IntKind → ℕ → ℤ
 number_in bool_kind n = cond (n == 0) (pos 0) (pos 1)
 number_in kind n = signed_number (is_signed kind) (bits_of_kind kind) n
+
+-- the bits of a number in two's complement, the least one first (C11 6.2.6.2p2)
+abbrev pub bits_of : ℕ → ℤ → List Bool
+bits_of width n = bits_from (residue (2 ^ width) n) width

@@ -8,3 +8,4 @@ pub mod Syntax
 pub mod Source
 pub mod SourceViews
 pub mod Meaning
+pub mod KindSets

@@ -19,11 +19,33 @@ pub enum IntKind {
     ULLong,
 }
 
-/// C's binary operators (C11 6.5.6 to 6.5.9). Their operands stand converted to one type.
+/// Sizes and ranges of the types: LP64, as on x86-64.
+#[derive(Clone, Copy, Debug, PartialEq, Eq)]
+pub enum Machine {
+    Lp64,
+}
+
+/// C's unary operators on numbers (C11 6.5.3.3): `-`, `!` and `~`. The operand stands promoted.
+#[derive(Clone, Copy, Debug, PartialEq, Eq)]
+pub enum UnOp {
+    Neg,
+    Not,
+    Compl,
+}
+
+/// C's binary operators (C11 6.5.5 to 6.5.12). Their operands stand converted to one type.
 #[derive(Clone, Copy, Debug, PartialEq, Eq)]
 pub enum BinOp {
     Add,
     Sub,
+    Mul,
+    Div,
+    Rem,
+    And,
+    Or,
+    Xor,
+    Shl,
+    Shr,
     Lt,
     Le,
     Gt,

@@ -19,3 +19,5 @@ pub mod Remainders
 pub mod RunShapes
 pub mod Runs
 pub mod Solving
+pub mod Joined
+pub mod Tests

@@ -1,6 +1,7 @@
 pub mod Chains
 pub mod Hulls
 pub mod Ivals
+pub mod Joined
 pub mod Ranges
 pub mod Sets
 pub mod Solutions

@@ -14,4 +14,5 @@ mod tests;
 mod value;
 mod widening;
 
-pub use value::Ival;
+pub use steps::run_from;
+pub use value::{Ival, Progression, Shape};

@@ -36,7 +36,7 @@ fn first_at(lo: i128, rem: i128, modulus: i128) -> i128
 }
 
 /// The numbers from `first` to `high` in steps of `stride`.
-pub(crate) fn run_from(first: i128, high: i128, stride: u128) -> Ival
+pub fn run_from(first: i128, high: i128, stride: u128) -> Ival
     requires first { IsNumber first }
     requires high { IsNumber high }
     requires order { first ≤ℤ high }

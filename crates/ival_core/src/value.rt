@@ -58,6 +58,13 @@ impl Ival {
         }
     }
 
+    /// How the numbers are kept.
+    pub fn shape(&self) -> &Shape
+        ensures { result.now ≡ self.now.shape }
+    {
+        &self.shape
+    }
+
     /// The same set, without taking memory.
     pub fn copy(&self) -> Ival
         ensures { result ≡ self.now }
