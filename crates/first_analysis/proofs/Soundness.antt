@@ -41,7 +41,7 @@ module _ (count : ℕ) where
   Fits (Ok n) = fits_kind Int n ≡ true
   Fits (Err kind) = Unit {0}
 
-  arithmetic_fits : (n : ℤ) (b : Bool) → fits_kind Int n ≡ b → Fits (arithmetic Int n)
+  arithmetic_fits : (n : ℤ) (b : Bool) → fits_kind Int n ≡ b → Fits (arithmetic true 32 n)
   arithmetic_fits n true e = rw e e
   arithmetic_fits n false e = rw e tt
 

@@ -1,5 +1,5 @@
 //! What sums and tests give.
-ghost use Rattle.std.specs.Prelude.{◌≡◌, ℤ, ◌≤ℤ◌, ◌+ℤ◌, ◌-ℤ◌, IsTrue, Bool, not, int_lt, ◌≢◌, Option, Result, IfOk};
+ghost use Rattle.std.specs.Prelude.{◌≡◌, ℤ, ◌≤ℤ◌, ◌+ℤ◌, ◌-ℤ◌, IsTrue, Bool, true, not, int_lt, ◌≢◌, Option, Result, IfOk};
 ghost use Rattle.c_prog.specs.declared.kind.Kind.{Kind};
 ghost use Rattle.c_prog.specs.declared.tree.IntKind.TheVariants.{Int};
 ghost use Rattle.c_prog.specs.Operators.{arithmetic, computed};
@@ -151,7 +151,7 @@ fn cut(bounds: Bounds) -> Option<Range>
 
 // What an operation gives whose results have these bounds: those beyond type int are undefined (C11 6.5p5).
 fn within_int(bounds: Bounds, kinds: Kinds) -> Evaluated
-    ensures gives { (n : ℤ) → bounds.low ≤ℤ n → n ≤ℤ bounds.high → Gives result (arithmetic Int n) }
+    ensures gives { (n : ℤ) → bounds.low ≤ℤ n → n ≤ℤ bounds.high → Gives result (arithmetic true 32 n) }
     ensures kinds { (kind : Kind) → IsTrue (has_kind kinds kind) → IsTrue (has_kind result.kinds kind) }
 {
     let leaves = bounds.low < INT.low as i128 || bounds.high > INT.high as i128;
