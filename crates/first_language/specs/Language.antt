@@ -34,7 +34,8 @@ use Rattle.c_prog.specs.Source.{Stmt, Assign, Return, If, While, Block, Nothing,
 
 -- ---- words
 
--- A piece of a program's spelling: a word, or `Here` before the first word of a numbered statement.
+-- A piece of a program's spelling: a keyword, a punctuator, an identifier, the name of a variable or a number; or `Here` before the
+-- first word of a numbered statement.
 pub data Piece : Type 0 where
   Key : Keyword → Piece
   Mark : Punctuator → Piece
@@ -150,7 +151,7 @@ is_open (While test s) = is_open s
 is_open (Block stmts) = false
 is_open Nothing = true
 
--- where there is an `else`, it belongs to the nearest `if`
+-- no `else` stands behind an open branch, so that each belongs to the nearest `if`
 abbrev pub IsNearest : Stmt → Stmt → Type 0
 IsNearest s Nothing = Unit {0}
 IsNearest s _ = is_open s ≡ false
