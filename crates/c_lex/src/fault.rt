@@ -16,10 +16,12 @@ pub enum Flaw {
     BadNumber,
 }
 
-/// Why a file has no tokens, or none that are returned; `at` is the place of the first piece that is none.
+/// Why a file has no tokens, or none that are returned. A file is cut from its front, and the first piece that is wrong is named: `at` is where it
+/// begins, and for `BadByte` the byte in it that is wrong. In one comment, annotation or constant the want of its end goes first.
 #[derive(Clone, Copy, Debug, PartialEq, Eq, Error)]
 pub enum LexFault {
-    /// A byte that begins no token, or a constant between quotes with a wrong escape or, as a character, with other than one byte (C11 6.4.4.4, 6.4.5).
+    /// A byte that begins no token; or in a constant between quotes the `\` of a wrong escape, or the first byte too many or too few of a character
+    /// (C11 6.4.4.4, 6.4.5). Bytes from 128 on stand in comments, skipped lines and strings alone.
     #[error("{}:{}: bad byte", .at.line, .at.col)]
     BadByte { at: Span },
     /// A comment or an annotation without its `*/` (C11 6.4.9).

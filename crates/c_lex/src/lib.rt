@@ -5,13 +5,13 @@ ghost use Rattle.std.specs.Prelude.{◌≡◌, ◌++◌, ◌∷◌, [], ◌-◌,
 ghost use Rattle.c_lex.specs.Lexing.{AreAnswered, IsRefusal};
 
 use crate::cut::{Cursor, Step, advance};
-use crate::fault::LexFault;
+pub use crate::fault::LexFault;
 use c_prog::token::Token;
 use std::alloc::{AllocError, Global};
 
 mod bytes;
 mod cut;
-pub mod fault;
+mod fault;
 mod meaning;
 mod number;
 pub mod punctuator;
