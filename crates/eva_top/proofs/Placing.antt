@@ -3,12 +3,13 @@ use Rattle.std.proofs.Common.{◌≡◌, ◌≢◌, ℕ, zero, suc, ◌+◌, ◌
 use Rattle.std.specs.List.{list_any}
 use Rattle.std.proofs.lemmas.Bool.Decides.{nat_tests}
 use Rattle.c_prog.proofs.Tests.{same_test, other_test}
-use Rattle.c_prog.specs.declared.tree.Program.{Program as CodeProgram}
+use Rattle.c_prog.specs.Source.{Program}
 use Rattle.c_prog.specs.Layouts.{Layout}
 use Rattle.c_prog.specs.Memories.{Memory, born}
 use Rattle.c_prog.specs.Syntax.{base_at, numbers_from, IsLayout}
 use Rattle.c_prog.specs.Meaning.{meaning_of, variable_base}
-use Rattle.c_mean.proofs.Evaluation.{Env, IsVariable, HasVariables, Shows}
+use Rattle.c_mean.specs.Evaluation.{Env, IsVariable}
+use Rattle.c_mean.proofs.Evaluation.{HasVariables, Shows}
 
 or_true : (a b : Bool) → b ≡ true → (a || b) ≡ true
 or_true true b h = refl
@@ -44,14 +45,14 @@ length-bases : (vs : List (List ℕ)) → length (map variable_base vs) ≡ leng
 length-bases [] = refl
 length-bases (v ∷ vs) = ap suc (length-bases vs)
 
-pub base_known : (p : CodeProgram) (base : ℕ) → IsVariable (length p.variables) base →
+pub base_known : (p : Program) (base : ℕ) → IsVariable (length p.variables) base →
     base_at (meaning_of p).bases base ≡ Some (variable_base (get_or p.variables (base - 1) []))
 base_known p zero v = let low = v.low in absurd (omega arith)
 base_known p (suc i) v =
     let high = v.high in let within : i < length p.variables = omega arith in let same : suc i - 1 ≡ i = omega arith in
     rw same (variable_base_at p.variables i within)
 
-pub has_variables : (p : CodeProgram) (l : Layout) → IsLayout (meaning_of p) l → HasVariables l (length p.variables)
+pub has_variables : (p : Program) (l : Layout) → IsLayout (meaning_of p) l → HasVariables l (length p.variables)
 has_variables p l is = record {
   each = λ base v.
       let known = is.known base (variable_base (get_or p.variables (base - 1) [])) (base_known p base v) in

@@ -1,5 +1,4 @@
 pub mod Report
 pub mod Sound
-pub mod Analysis
-pub mod Answers
+pub mod Rows
 pub mod ExitStatus

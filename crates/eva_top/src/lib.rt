@@ -1,7 +1,6 @@
 //! The command: from the words and the bytes of a file to the bytes of its report.
 #![tactic(auto)]
 
-pub mod analysis;
-pub mod command;
 pub mod print;
+pub mod report;
 pub mod status;

@@ -1,11 +1,13 @@
 //! The lines of a report, appended to a text.
-ghost use Rattle.std.specs.Prelude.{◌≡◌, ◌+◌, ◌^◌, ◌<◌, ◌≤◌, [], ◌∷◌, ◌++◌, length, IfOk, OnOk};
-ghost use Rattle.std.specs.Fmt.{decimal};
-ghost use Rattle.eva_top.specs.Report.{kind_name, stmt_head, string_head, row_head, variable_head, entry_text, alarm_text, first_line, end_line};
-ghost use Rattle.eva_top.specs.Analysis.{entry_of, alarm_of};
+ghost use Rattle.std.specs.Prelude.{◌≡◌, ◌+◌, pos, neg_ℤ, ◌+ℤ◌, ◌≤ℤ◌, ◌^◌, ◌<◌, ◌≤◌, [], ◌∷◌, ◌++◌, length, IfOk, OnOk, IfSome, IfNone};
+ghost use Rattle.std.specs.Fmt.{decimal, signed_decimal};
+ghost use Rattle.eva_top.specs.Report.{kind_name, stmt_head, string_head, row_head, variable_head, numbers_text, entry_text, alarm_text, first_line, end_line};
+ghost use Rattle.eva_top.specs.Rows.{entry_of, alarm_of, numbers_up, numbers_of, listed_text, flag_text, content_text, shown_range};
+ghost use Rattle.c_prog.specs.Rows.{Few, Many};
 
 use c_prog::kind::Kind;
 use c_prog::number::{Span, StmtId};
+use first_analysis::content::{Content, Range};
 use std::alloc::{AllocError, Global};
 
 /// An alarm in the call string without call sites.
@@ -96,51 +98,131 @@ fn push_variable(
     push_number(alloc, text, 31)
 }
 
-#[tactic(auto, unfolding(crate::specs::Report::entry_text, crate::specs::Report::variable_head))]
-fn push_unwritten(
-    alloc: Global,
-    text: &mut Vec<u8>,
-    name: &[u8],
-    base: u32,
-) -> Result<(), AllocError>
-    ensures { OnOk result (text.new.items ≡ text.old.items ++ entry_text (λ _. name.now) (entry_of base None)) }
+pub fn push_signed(alloc: Global, text: &mut Vec<u8>, number: i128) -> Result<(), AllocError>
+    ensures { OnOk result (text.new.items ≡ text.old.items ++ signed_decimal number) }
 {
-    push_variable(alloc, text, name, base)?;
-    push_text(text, b" uninit\n")
+    let digits = number.to_string(alloc)?;
+    push_text(text, digits.as_bytes())
 }
 
-#[tactic(auto, unfolding(crate::specs::Report::entry_text, crate::specs::Report::variable_head))]
-fn push_holding(
+// So many numbers from a low one on.
+fn push_listed(
     alloc: Global,
     text: &mut Vec<u8>,
-    name: &[u8],
-    base: u32,
-    number: u32,
+    low: i128,
+    count: usize,
 ) -> Result<(), AllocError>
-    ensures { OnOk result (text.new.items ≡ text.old.items ++ entry_text (λ _. name.now) (entry_of base (Some number))) }
+    requires low { neg_ℤ (pos (2 ^ 100)) ≤ℤ low }
+    requires high { (low +ℤ pos count) ≤ℤ pos (2 ^ 100) }
+    ensures { OnOk result (text.new.items ≡ text.old.items ++ listed_text (numbers_up low count)) }
 {
-    push_variable(alloc, text, name, base)?;
-    push_text(text, b"/")?;
-    push_number(alloc, text, 32)?;
-    push_text(text, b" {")?;
-    push_number(alloc, text, number)?;
-    push_text(text, b"}\n")?;
+    if count == 0 {
+        return Ok(());
+    }
+    push_signed(alloc, text, low)?;
+    if count == 1 {
+        return Ok(());
+    }
+    push_text(text, b"; ")?;
+    push_listed(alloc, text, low + 1, count - 1)?;
     Ok(())
 }
 
+// How many numbers a range has, if they are at most 8.
+fn few_in(range: Range) -> Option<usize>
+    ensures few { IfSome result (λ count. (numbers_of range ≡ Few (numbers_up range.low count)) × (count ≤ 8)) }
+    ensures many { IfNone result (numbers_of range ≡ Many range.low range.high 0 1) }
+{
+    if range.high < range.low {
+        return Some(0);
+    }
+    let width = range.high.abs_diff(range.low);
+    if width > 7 {
+        return None;
+    }
+    Some(width as usize + 1)
+}
+
+fn push_range(alloc: Global, text: &mut Vec<u8>, range: Range) -> Result<(), AllocError>
+    ensures { OnOk result (text.new.items ≡ text.old.items ++ numbers_text (numbers_of range)) }
+{
+    match few_in(range) {
+        None => {
+            push_text(text, b"[")?;
+            push_signed(alloc, text, range.low as i128)?;
+            push_text(text, b"..")?;
+            push_signed(alloc, text, range.high as i128)?;
+            push_text(text, b"]")?;
+        }
+        Some(count) => {
+            push_text(text, b"{")?;
+            push_listed(alloc, text, range.low as i128, count)?;
+            push_text(text, b"}")?;
+        }
+    }
+    Ok(())
+}
+
+fn push_flag(text: &mut Vec<u8>, uninit: bool, before: &[u8]) -> Result<(), AllocError>
+    ensures { OnOk result (text.new.items ≡ text.old.items ++ flag_text uninit before.now) }
+{
+    if uninit {
+        push_text(text, before)?;
+        push_text(text, b"uninit")?;
+    }
+    Ok(())
+}
+
+// A range without numbers is not shown.
+fn shown(range: Option<Range>) -> Option<Range>
+    ensures { result ≡ shown_range range }
+{
+    match range {
+        None => None,
+        Some(range) => {
+            if range.high < range.low {
+                None
+            } else {
+                Some(range)
+            }
+        }
+    }
+}
+
+// What a variable holds, behind its bits.
+fn push_content(alloc: Global, text: &mut Vec<u8>, content: Content) -> Result<(), AllocError>
+    ensures { OnOk result (text.new.items ≡ text.old.items ++ content_text content.uninit (shown_range content.range)) }
+{
+    match shown(content.range) {
+        None => {
+            push_text(text, b" ")?;
+            push_flag(text, content.uninit, b"")?;
+        }
+        Some(range) => {
+            push_text(text, b"/")?;
+            push_number(alloc, text, 32)?;
+            push_text(text, b" ")?;
+            push_range(alloc, text, range)?;
+            push_flag(text, content.uninit, b" or ")?;
+        }
+    }
+    Ok(())
+}
+
+/// The entry of a variable.
 pub fn push_entry(
     alloc: Global,
     text: &mut Vec<u8>,
     name: &[u8],
     base: u32,
-    content: Option<u32>,
+    content: Content,
 ) -> Result<(), AllocError>
     ensures { OnOk result (text.new.items ≡ text.old.items ++ entry_text (λ _. name.now) (entry_of base content)) }
 {
-    match content {
-        None => push_unwritten(alloc, text, name, base),
-        Some(number) => push_holding(alloc, text, name, base, number),
-    }
+    push_variable(alloc, text, name, base)?;
+    push_content(alloc, text, content)?;
+    push_text(text, b"\n")?;
+    Ok(())
 }
 
 #[tactic(auto, unfolding(crate::specs::Report::alarm_text))]
