@@ -2,22 +2,36 @@
 #![tactic(auto)]
 
 use eva_io::file_store::FileStore;
+use eva_io::sink::write_whole;
 use eva_io::std_sink::StdSink;
 use eva_top::command::eva;
+use std::env;
 use std::process::ExitCode;
-use std::{env, io};
 
 #[cfg(test)]
 mod tests;
 
-fn main(rt: HostRuntime) -> io::Result<ExitCode> {
+// What is answered where memory is wanting before the command is called.
+const MEMORY: u8 = 7;
+
+fn main(rt: HostRuntime) -> ExitCode {
+    let mut notes = StdSink::notes(&rt);
     let mut words = Vec::new(rt.alloc());
-    for word in env::args(&rt)?.skip(1) {
-        words.push(word)?;
+    let args = match env::args(&rt) {
+        Ok(args) => args,
+        Err(_) => {
+            let _ = write_whole(&mut notes, b"out of memory\n");
+            return ExitCode::from(MEMORY);
+        }
+    };
+    for word in args.skip(1) {
+        if words.push(word).is_err() {
+            let _ = write_whole(&mut notes, b"out of memory\n");
+            return ExitCode::from(MEMORY);
+        }
     }
     let mut store = FileStore::new(&rt);
     let mut out = StdSink::out(&rt);
-    let mut notes = StdSink::notes(&rt);
     let status = eva(&rt, rt.alloc(), &words, &mut store, &mut out, &mut notes);
-    Ok(ExitCode::from(status.exit_status()))
+    ExitCode::from(status.exit_status())
 }

@@ -86,6 +86,102 @@ fn an_unwritten_variable_is_an_alarm(rt: HostRuntime) -> Result<(), Fail> {
     Ok(())
 }
 
+// Whether the report of a source has a line, or several that follow each other.
+fn reports<R: Threads + Sync>(
+    rt: &R,
+    alloc: Global,
+    source: &[u8],
+    status: Status,
+    lines: &[u8],
+) -> Result<bool, AllocError> {
+    let end = report_of(rt, alloc, source)?;
+    let text = end.out.as_slice();
+    let mut found = false;
+    for start in 0..text.len() {
+        if text[start..].starts_with(lines) {
+            found = true;
+        }
+    }
+    Ok(found && end.status == status)
+}
+
+#[test]
+fn statements_are_reported(rt: HostRuntime) -> Result<(), Fail> {
+    let alloc = rt.alloc();
+    let clean = Status::Clean;
+    let alarmed = Status::Alarmed;
+    assert!(rt;
+        reports(
+            &rt,
+            alloc,
+            b"int main(void){int x; x=2147483647; x=x+1; return x;}",
+            alarmed,
+            b"x#1 0..31/32 {2147483647}\nstmt 3 1:44 main\nstmt 4 1:53 main\nalarm signed_overflow 2 in -\nend alarmed\n"
+        )?
+    );
+    assert!(rt;
+        reports(
+            &rt,
+            alloc,
+            b"int main(void){int x; x=1; if(x<2) x=1; else x=1; return x;}",
+            clean,
+            b"stmt 5 1:51 main\nin -\nrow\nx#1 0..31/32 {1}\n"
+        )?
+    );
+    assert!(rt;
+        reports(
+            &rt,
+            alloc,
+            b"int main(void){int x; x=0; while(x<0) x=0; return x;}",
+            clean,
+            b"stmt 3 1:39 main\nstmt 4 1:44 main\nin -\nrow\nx#1 0..31/32 {0}\n"
+        )?
+    );
+    assert!(rt;
+        reports(
+            &rt,
+            alloc,
+            b"int main(void){int x; x=0; while(x<2) x=x+1; return x;}",
+            alarmed,
+            b"alarm signed_overflow 3 in -\n"
+        )?
+    );
+    assert!(rt;
+        reports(
+            &rt,
+            alloc,
+            b"int main(void){int x; int y; x=0; while(x==0) {y=7; if(y>6) x=0; else x=1;} return y;}",
+            clean,
+            b"stmt 2 1:34 main\nin -\nrow\nx#1 0..31/32 {0}\ny#2 0..31/32 {7} or uninit\n"
+        )?
+    );
+    assert!(rt;
+        reports(
+            &rt,
+            alloc,
+            b"int main(void){int x; /* a */ x=0x1F-017; // b\n return x;}",
+            clean,
+            b"x#1 0..31/32 {16}\n"
+        )?
+    );
+    Ok(())
+}
+
+#[test]
+fn faults_of_tokens_are_named(rt: HostRuntime) -> Result<(), Fail> {
+    let number = report_of(&rt, rt.alloc(), b"int main(void){return 08;}")?;
+    assert_eq!(rt;
+        number.notes.as_slice(),
+        b"refused: lex bad number at 1:23\n".as_slice()
+    );
+    let comment = report_of(&rt, rt.alloc(), b"int main(void){return 0;} /* end")?;
+    assert_eq!(rt;
+        comment.notes.as_slice(),
+        b"refused: lex open comment at 1:27\n".as_slice()
+    );
+    Ok(())
+}
+
 #[test]
 fn a_small_sink_gets_the_same_text(rt: HostRuntime) -> Result<(), Fail> {
     let end = called(&rt, rt.alloc(), &["a.c"], CONSTANT, 10, 0)?;

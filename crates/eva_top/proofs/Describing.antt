@@ -141,8 +141,8 @@ rows_described l m env base (c ∷ cs) d holds live =
     let same : base + 0 ≡ base = omega arith in (
       entry_described l m base c (env base) (rw same at (holds 0 (omega arith))) (rw same at (live 0 (omega arith))),
       rows_described l m env (suc base) cs d
-      (λ i h. let next : base + suc i ≡ suc base + i = omega arith in rw next at (holds (suc i) (omega arith)))
-      (λ i h. let next : base + suc i ≡ suc base + i = omega arith in rw next at (live (suc i) (omega arith))),
+          (λ i h. let next : base + suc i ≡ suc base + i = omega arith in rw next at (holds (suc i) (omega arith)))
+          (λ i h. let next : base + suc i ≡ suc base + i = omega arith in rw next at (live (suc i) (omega arith))),
     )
 
 base_of_entry : (base : ℕ) (c : Content) → (entry_of base c).base ≡ base

@@ -3,3 +3,4 @@ pub mod Texts
 pub mod Placing
 pub mod Describing
 pub mod Soundness
+pub mod Answering

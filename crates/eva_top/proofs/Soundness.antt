@@ -180,8 +180,8 @@ sound p places shaped an long l is s init ts run =
           (rw number at (place_covers p places l has long (length t.inner) t.last (last_at p places l has long t.inner t.last t.whole) env m show (t.ends.each env holds)));
     } in
     let good : (n : ℕ) → Good l cover alarm n first = λ n.
-        statements_good Reached HoldsReached l cover alarm count has p.body 1 (map spot_of t.inner) an.start t.after (ending body end locals) shaped.stmts t.flows
-        (stands p places l has long t.inner t.last t.whole) ends n (closes n) (λ base. None) memory shows an.begins in
+    statements_good Reached HoldsReached l cover alarm count has p.body 1 (map spot_of t.inner) an.start t.after (ending body end locals) shaped.stmts t.flows
+    (stands p places l has long t.inner t.last t.whole) ends n (closes n) (λ base. None) memory shows an.begins in
     let same : s ≡ first = init in
     let met = good_run l cover alarm first ts good (rw same at run) in
     rw same (record { rows = met.rows; stops = met.stops })

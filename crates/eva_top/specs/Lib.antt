@@ -1,4 +1,5 @@
 pub mod Report
 pub mod Sound
+pub mod Answers
 pub mod Rows
 pub mod ExitStatus

@@ -1,6 +1,7 @@
 //! The command: from the words and the bytes of a file to the bytes of its report.
 #![tactic(auto)]
 
+pub mod command;
 pub mod print;
 pub mod report;
 pub mod status;

@@ -23,7 +23,7 @@ pub fn push_text(text: &mut Vec<u8>, piece: &[u8]) -> Result<(), AllocError>
     text.extend_from_slice(piece)
 }
 
-pub fn push_number(alloc: Global, text: &mut Vec<u8>, number: u32) -> Result<(), AllocError>
+pub fn push_number(alloc: Global, text: &mut Vec<u8>, number: u64) -> Result<(), AllocError>
     ensures { OnOk result (text.new.items ≡ text.old.items ++ decimal number) }
 {
     let digits = number.to_string(alloc)?;
@@ -62,11 +62,11 @@ pub fn push_stmt(
     ensures { OnOk result (text.new.items ≡ text.old.items ++ stmt_head id span function.now) }
 {
     push_text(text, b"stmt ")?;
-    push_number(alloc, text, id)?;
+    push_number(alloc, text, id as u64)?;
     push_text(text, b" ")?;
-    push_number(alloc, text, span.line)?;
+    push_number(alloc, text, span.line as u64)?;
     push_text(text, b":")?;
-    push_number(alloc, text, span.col)?;
+    push_number(alloc, text, span.col as u64)?;
     push_text(text, b" ")?;
     push_text(text, function)?;
     push_text(text, b"\n")
@@ -91,7 +91,7 @@ fn push_variable(
 {
     push_text(text, name)?;
     push_text(text, b"#")?;
-    push_number(alloc, text, base)?;
+    push_number(alloc, text, base as u64)?;
     push_text(text, b" ")?;
     push_number(alloc, text, 0)?;
     push_text(text, b"..")?;
@@ -106,12 +106,7 @@ pub fn push_signed(alloc: Global, text: &mut Vec<u8>, number: i128) -> Result<()
 }
 
 // So many numbers from a low one on.
-fn push_listed(
-    alloc: Global,
-    text: &mut Vec<u8>,
-    low: i128,
-    count: usize,
-) -> Result<(), AllocError>
+fn push_listed(alloc: Global, text: &mut Vec<u8>, low: i128, count: usize) -> Result<(), AllocError>
     requires low { neg_ℤ (pos (2 ^ 100)) ≤ℤ low }
     requires high { (low +ℤ pos count) ≤ℤ pos (2 ^ 100) }
     ensures { OnOk result (text.new.items ≡ text.old.items ++ listed_text (numbers_up low count)) }
@@ -232,7 +227,7 @@ pub fn push_alarm(alloc: Global, text: &mut Vec<u8>, alarm: Alarm) -> Result<(),
     push_text(text, b"alarm ")?;
     push_text(text, kind_text(alarm.kind))?;
     push_text(text, b" ")?;
-    push_number(alloc, text, alarm.at.0)?;
+    push_number(alloc, text, alarm.at.0 as u64)?;
     push_text(text, b" in -\n")
 }
 

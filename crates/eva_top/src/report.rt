@@ -107,12 +107,7 @@ fn push_lines(
 }
 
 // The alarms of a statement.
-fn push_kinds(
-    alloc: Global,
-    text: &mut Vec<u8>,
-    id: u32,
-    kinds: Kinds,
-) -> Result<(), AllocError>
+fn push_kinds(alloc: Global, text: &mut Vec<u8>, id: u32, kinds: Kinds) -> Result<(), AllocError>
     ensures { OnOk result (text.new.items ≡ text.old.items ++ alarms_text (place_alarms id kinds)) }
 {
     if kinds.overflow {

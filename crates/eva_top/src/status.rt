@@ -3,11 +3,28 @@ ghost use Rattle.eva_top.specs.ExitStatus.{exit_status_of};
 
 use c_prog::number::Span;
 
+/// What is wrong with the first piece of a file that can't be cut into tokens (C11 6.4).
+#[derive(Clone, Copy, Debug, PartialEq, Eq)]
+pub enum LexSort {
+    /// A byte that begins no token, or that can't stand in a character constant or an escape.
+    BadByte,
+    /// A comment or an annotation without its end.
+    OpenComment,
+    /// A string or a character constant without its end on its line.
+    OpenString,
+    /// What begins like a number and is none, or a number of 2^128 or more.
+    BadNumber,
+}
+
 /// Why a source is refused.
 #[derive(Clone, Copy, Debug, PartialEq, Eq)]
 pub enum Refusal {
     /// The file is not in the language that is read so far. The place is a hint and only lies in the file.
     Form { at: Span },
+    /// The file can't be cut into tokens; the place is that of its first wrong piece.
+    Lex { fault: LexSort, at: Span },
+    /// More than a limit allows: limit 1 is 2,000,000 tokens.
+    Limit { limit: u32, found: u64 },
 }
 
 /// How a call of the command ended.
