@@ -152,7 +152,7 @@ fn statements_are_reported(rt: HostRuntime) -> Result<(), Fail> {
             alloc,
             b"int main(void){int x; int y; x=0; while(x==0) {y=7; if(y>6) x=0; else x=1;} return y;}",
             clean,
-            b"stmt 2 1:34 main\nin -\nrow\nx#1 0..31/32 {0}\ny#2 0..31/32 {7} or uninit\n"
+            b"stmt 2 1:35 main\nin -\nrow\nx#1 0..31/32 {0}\ny#2 0..31/32 {7} or uninit\n"
         )?
     );
     assert!(rt;
