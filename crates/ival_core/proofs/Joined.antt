@@ -12,7 +12,7 @@ use Rattle.ival_core.specs.declared.value.Progression.{Progression}
 use Rattle.ival_core.specs.declared.value.Shape.{Shape}
 use Rattle.ival_core.specs.declared.value.Shape.TheVariants.{Few, Many}
 use Rattle.ival_core.specs.declared.value.Ival.{Ival}
-use Rattle.ival_core.specs.Sets.{apart, Among, AllAbove, AllNumbers, IsAscending, IsNumber, IsSmallSet, IsLongRun, IsValid, IsLeast, Has, Steps, HoldsNine}
+use Rattle.ival_core.specs.Sets.{apart, Among, AllAbove, AllNumbers, IsAscending, IsNumber, IsSmallSet, IsLongRun, IsValid, IsLeast, Has, Steps, HoldsNine, steps_from}
 use Rattle.ival_core.specs.Hulls.{Spans, IsHull}
 use Rattle.ival_core.specs.Ivals.{Holds, Includes, IsJoin}
 use Rattle.ival_core.specs.Joined.{gcd_from, gcd, hull, point, hull_of, inserted, few_or_hull, with_number, with_numbers, joined}
@@ -22,8 +22,8 @@ use Rattle.ival_core.proofs.Distances.{apart-swap}
 use Rattle.ival_core.proofs.Hulls.{Spans-run, Spans-same, Spans-one, Spans-hull, Spans-long, Spans-IsLeast, IsHull-from}
 use Rattle.ival_core.proofs.Insertion.{AllNumbers-among, AllNumbers-from_among, IsLeast-exact, IsLeast-same, IsLeast-more, Holds-number}
 use Rattle.ival_core.proofs.Joins.{run_long, run_least}
-use Rattle.ival_core.proofs.Runs.{Steps-number}
-use Rattle.ival_core.proofs.Tests.{lt_true, lt_false}
+use Rattle.ival_core.proofs.Runs.{Steps-number, Steps-nine, length-steps_from, steps_from-ascending}
+use Rattle.ival_core.proofs.Orders.{lt_true, lt_false}
 use borrow.Author.Tests.{eqb-true}
 
 gcd_from_is : (fuel a b : ℕ) → b ≤ fuel → IsGcd a b (gcd_from fuel a b)
@@ -59,11 +59,11 @@ hull_of-spans x (y ∷ ys) =
     (Spans-hull (λ n. n ≡ x) (Among (y ∷ ys)) (point x) (hull_of y ys) (hull (point x) (hull_of y ys)) (Spans-one x) (hull_of-spans y ys) (hull_is (point x) (hull_of y ys)))
 
 -- ys is xs with x, in order
-record With (x : ℤ) (xs ys : List ℤ) : Type 0 where
-  ascending : IsAscending ys
-  longer : length ys ≤ suc (length xs)
-  has : (n : ℤ) → Among ys n → Among xs n ⊎ (n ≡ x)
-  keeps : (n : ℤ) → Among xs n ⊎ (n ≡ x) → Among ys n
+pub record With (x : ℤ) (xs ys : List ℤ) : Type 0 where
+  pub ascending : IsAscending ys
+  pub longer : length ys ≤ suc (length xs)
+  pub has : (n : ℤ) → Among ys n → Among xs n ⊎ (n ≡ x)
+  pub keeps : (n : ℤ) → Among xs n ⊎ (n ≡ x) → Among ys n
 
 front : (x y : ℤ) (ys : List ℤ) → IsAscending (y ∷ ys) → x <ℤ y → With x (y ∷ ys) (x ∷ y ∷ ys)
 front x y ys a l = record {
@@ -92,7 +92,7 @@ later x y ys zs a l w = record {
   keeps = λ n m. elim m [ inl k ↦ elim k [ inl e ↦ inl e | inr i ↦ inr (w.keeps n (inl i)) ] | inr e ↦ inr (w.keeps n (inr e)) ];
 }
 
-inserted-with : (x : ℤ) (xs : List ℤ) → IsAscending xs → With x xs (inserted x xs)
+pub inserted-with : (x : ℤ) (xs : List ℤ) → IsAscending xs → With x xs (inserted x xs)
 unfolding inserted
 inserted-with x [] a = record {
   ascending = (tt, tt);
@@ -117,16 +117,30 @@ record Nine (xs : List ℤ) : Type 0 where
   nine : length xs ≡ 9
   ascending : IsAscending xs
 
--- what a list of at most 9 numbers makes
+-- nine numbers with P have Q too
+pub HoldsNine-map : (P Q : ℤ → Type 0) → ((n : ℤ) → P n → Q n) → HoldsNine P → HoldsNine Q
+HoldsNine-map P Q f h = record { some = h.some; nine = h.nine; ascending = h.ascending; held = λ n m. f n (h.held n m) }
+
+pub Steps-hold_nine : (p : Progression) → IsLongRun p → HoldsNine (Steps p)
+Steps-hold_nine p l = record {
+  some = steps_from p.low p.stride 9;
+  nine = length-steps_from p.low p.stride 9;
+  ascending = steps_from-ascending p.low p.stride 9 l.moves;
+  held = Steps-nine p l;
+}
+
+-- s is the least set round the numbers with P, and has no others unless they are more than 8
 pub record Makes (P : ℤ → Type 0) (s : Shape) : Type 0 where
   pub valid : IsValid s
   pub least : IsLeast P s
+  pub sharp : ((n : ℤ) → Has s n → P n) ⊎ HoldsNine P
 
 few_or_hull-makes : (xs : List ℤ) → IsAscending xs → AllNumbers xs → length xs ≤ 9 → Makes (Among xs) (few_or_hull xs)
 unfolding few_or_hull
 few_or_hull-makes [] a b h = record {
   valid = record { small = omega arith; ascending = tt; numbers = tt };
   least = IsLeast-exact (Among []) (record { items = [] }) (λ n m. m) (λ n m. m);
+  sharp = inl (λ n m. m);
 }
 few_or_hull-makes (x ∷ xs) a b h = by_length x xs a b h (nat_lt 8 (length (x ∷ xs))) (λ e. long x xs h e) (λ e. short x xs e)
   where
@@ -144,10 +158,12 @@ few_or_hull-makes (x ∷ xs) a b h = by_length x xs a b h (nat_lt 8 (length (x �
         record {
           valid = Spans-long (Among (x ∷ xs)) (hull_of x xs) nine (λ n m. AllNumbers-among (x ∷ xs) b n m) (hull_of-spans x xs);
           least = Spans-IsLeast (Among (x ∷ xs)) (hull_of x xs) nine (hull_of-spans x xs);
+          sharp = inr nine;
         }
     by_length x xs a b h false f g = record {
       valid = record { small = g refl; ascending = a; numbers = b };
       least = IsLeast-exact (Among (x ∷ xs)) (record { items = x ∷ xs }) (λ n m. m) (λ n m. m);
+      sharp = inl (λ n m. m);
     }
 
 pub with_number-makes : (s : Shape) (x : ℤ) → IsValid s → IsNumber x → Makes (λ n. Has s n ⊎ (n ≡ x)) (with_number s x)
@@ -155,12 +171,20 @@ unfolding with_number
 with_number-makes (Few v) x a b =
     let w = inserted-with x v.items a.ascending in
     let m = few_or_hull-makes (inserted x v.items) w.ascending
-        (AllNumbers-from_among (inserted x v.items) (λ n k. elim (w.has n k) [ inl i ↦ AllNumbers-among v.items a.numbers n i | inr e ↦ subst IsNumber (sym e) b ]))
-        (let l = w.longer in let k = a.small in omega arith) in
-    record { valid = m.valid; least = IsLeast-same (Among (inserted x v.items)) (λ n. Among v.items n ⊎ (n ≡ x)) (few_or_hull (inserted x v.items)) w.has w.keeps m.least }
+    (AllNumbers-from_among (inserted x v.items) (λ n k. elim (w.has n k) [ inl i ↦ AllNumbers-among v.items a.numbers n i | inr e ↦ subst IsNumber (sym e) b ]))
+    (let l = w.longer in let k = a.small in omega arith) in
+    record {
+      valid = m.valid;
+      least = IsLeast-same (Among (inserted x v.items)) (λ n. Among v.items n ⊎ (n ≡ x)) (few_or_hull (inserted x v.items)) w.has w.keeps m.least;
+      sharp = elim m.sharp [
+        | inl f ↦ inl (λ n k. w.has n (f n k))
+        | inr h ↦ inr (HoldsNine-map (Among (inserted x v.items)) (λ n. Among v.items n ⊎ (n ≡ x)) w.has h)
+      ];
+    }
 with_number-makes (Many p) x a b = record {
   valid = run_long (λ n. n ≡ x) p (point x) (hull p (point x)) a (λ n e. subst IsNumber (sym e) b) (Spans-one x) (hull_is p (point x));
   least = run_least (λ n. n ≡ x) p (point x) (hull p (point x)) a (Spans-one x) (hull_is p (point x));
+  sharp = inr (HoldsNine-map (Steps p) (λ n. Steps p n ⊎ (n ≡ x)) (λ n m. inl m) (Steps-hold_nine p a));
 }
 
 pub with_numbers-makes : (s : Shape) (xs : List ℤ) → IsValid s → AllNumbers xs → Makes (λ n. Has s n ⊎ Among xs n) (with_numbers s xs)
@@ -168,6 +192,7 @@ unfolding with_numbers
 with_numbers-makes s [] a b = record {
   valid = a;
   least = record { holds = λ n m. elim m [ inl h ↦ h | inr k ↦ absurd k ]; least = λ u valid all n h. all n (inl h) };
+  sharp = inl (λ n h. inl h);
 }
 with_numbers-makes s (x ∷ xs) a b =
     let m = with_number-makes s x a b.0 in
@@ -185,6 +210,16 @@ with_numbers-makes s (x ∷ xs) a b =
               | inr i ↦ all j (inr (inr i))
             ]) n h;
       };
+      sharp = elim m.sharp [
+        | inr h ↦ inr (HoldsNine-map (λ n. Has s n ⊎ (n ≡ x)) (λ n. Has s n ⊎ Among (x ∷ xs) n) (λ n q. elim q [ inl y ↦ inl y | inr e ↦ inr (inl e) ]) h)
+        | inl f ↦
+            let onto : (n : ℤ) → Has (with_number s x) n ⊎ Among xs n → Has s n ⊎ Among (x ∷ xs) n =
+            λ n q. elim q [ inl w ↦ elim (f n w) [ inl y ↦ inl y | inr e ↦ inr (inl e) ] | inr i ↦ inr (inr i) ] in
+            elim k.sharp [
+              | inl g ↦ inl (λ n h. onto n (g n h))
+              | inr h ↦ inr (HoldsNine-map (λ n. Has (with_number s x) n ⊎ Among xs n) (λ n. Has s n ⊎ Among (x ∷ xs) n) onto h)
+            ]
+      ];
     }
 
 pub joined-makes : (s t : Shape) → IsValid s → IsValid t → Makes (λ n. Has s n ⊎ Has t n) (joined s t)
@@ -196,6 +231,7 @@ joined-makes (Few v) (Many q) a b =
     record {
       valid = m.valid;
       least = IsLeast-same (λ n. Steps q n ⊎ Among v.items n) (λ n. Among v.items n ⊎ Steps q n) (with_numbers (Many q) v.items) (λ n h. turn n h) (λ n h. back n h) m.least;
+      sharp = inr (HoldsNine-map (Steps q) (λ n. Among v.items n ⊎ Steps q n) (λ n h. inr h) (Steps-hold_nine q b));
     }
   where
     turn : (n : ℤ) → Steps q n ⊎ Among v.items n → Among v.items n ⊎ Steps q n
@@ -208,6 +244,7 @@ joined-makes (Few v) (Many q) a b =
 joined-makes (Many p) (Many q) a b = record {
   valid = run_long (Steps q) p q (hull p q) a (λ n m. Holds-number_of q b n m) (Spans-run q b) (hull_is p q);
   least = run_least (Steps q) p q (hull p q) a (Spans-run q b) (hull_is p q);
+  sharp = inr (HoldsNine-map (Steps p) (λ n. Steps p n ⊎ Steps q n) (λ n h. inl h) (Steps-hold_nine p a));
 }
   where
     Holds-number_of : (q : Progression) → IsLongRun q → (n : ℤ) → Steps q n → IsNumber n

@@ -20,4 +20,4 @@ pub mod RunShapes
 pub mod Runs
 pub mod Solving
 pub mod Joined
-pub mod Tests
+pub mod Orders

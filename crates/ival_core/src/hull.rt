@@ -43,7 +43,7 @@ pub(crate) fn hull_of(numbers: &[i128]) -> Progression
 }
 
 /// The greatest common divisor, where that of 0 and `b` is `b`.
-pub(crate) fn gcd(a: u128, b: u128) -> u128
+pub fn gcd(a: u128, b: u128) -> u128
     ensures { IsGcd a b result }
 {
     let mut greater = a;

@@ -14,5 +14,6 @@ mod tests;
 mod value;
 mod widening;
 
+pub use hull::gcd;
 pub use steps::run_from;
 pub use value::{Ival, Progression, Shape};

@@ -1,4 +1,4 @@
--- What a test says.
+-- What a comparison of integers that is true or false says.
 use Rattle.std.proofs.Common.{◌≡◌, Bool, true, false, ℤ, refl, sym, subst, arith}
 use Rattle.std.specs.Prelude.{int_lt, int_le}
 use Rattle.std.proofs.lemmas.Int.{ints, by_lt_z}
