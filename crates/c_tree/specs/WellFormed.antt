@@ -1,5 +1,5 @@
 -- Which trees are expressions. Each operand has at least the level that its place asks for, no operand of a run is a run of the same
--- level, and a name stands as a typedef name exactly where C says so. How deep a tree may be is stated apart, by `nest`.
+-- level, and a name stands as a typedef name exactly where C says so. How deep a tree may be is stated apart, in `IsWithin`.
 use Rattle.std.specs.Prelude.{ℕ, zero, suc, ◌≤◌, ◌≡◌, ◌==◌, Bool, true, false, cond, ◌||◌, IsTrue, List, [], ◌∷◌, Option, None, Some, bytes_eq}
 use Rattle.std.specs.List.{AllByRecursion}
 use Rattle.c_prog.specs.declared.number.Span.{Span}
@@ -16,6 +16,7 @@ use Rattle.c_tree.specs.declared.tree.Attribute.{Attribute as CodeAttribute}
 use Rattle.c_tree.specs.declared.tree.Pointer.{Pointer}
 use Rattle.c_tree.specs.declared.tree.Qualifier.{Qualifier}
 use Rattle.c_tree.specs.declared.tree.Qualifier.TheVariants as qualifier
+use Rattle.c_tree.specs.Nesting.{nest}
 use Rattle.c_tree.specs.Trees.{Tree, Name, Integer, Floating, Character, Text, Parenthesised, Postfix, Prefix, OfType, Offsetof, Cast, Run, Conditional, Assignment, Comma, Index, Call, Dot, Arrow, Increment, Decrement, Operand, TypeName, Key, Typedef, Attribute, CompositeTag, Composite, EnumTag, Enum, Enumerator, Fields, Assertion, Field, Padding, Declarator, Absent, Declared, Group, Array, Function, Trees, Nil, Next}
 
 -- ---- names
@@ -42,11 +43,6 @@ ordinary name names = record { name = name; is_typedef = false } ∷ names
 -- declares ends with it (C11 6.2.1p4); members, tags and labels have name spaces of their own (C11 6.2.3).
 abbrev mutual
   pub after : Names → Tree → Names
-  after names (Name span name) = names
-  after names (Integer span constant) = names
-  after names (Floating span) = names
-  after names (Character span byte) = names
-  after names (Text span literals) = names
   after names (Parenthesised span inner) = after names inner
   after names (Postfix span first parts) = after_all (after names first) parts
   after names (Prefix span operator operand) = after names operand
@@ -59,18 +55,9 @@ abbrev mutual
   after names (Comma span first more) = after_all (after names first) more
   after names (Index index) = after names index
   after names (Call opening arguments) = after_all names arguments
-  after names (Dot name) = names
-  after names (Arrow name) = names
-  after names Increment = names
-  after names Decrement = names
   after names (Operand operator operand) = after names operand
   after names (TypeName span specifiers declarator) = after_all (after_all names specifiers) declarator
-  after names (Key span keyword) = names
-  after names (Typedef span name) = names
-  after names (Attribute attribute) = names
-  after names (CompositeTag span sort attributes tag) = names
   after names (Composite span sort attributes tag members trailing) = after_all names members
-  after names (EnumTag span tag) = names
   after names (Enum span tag enumerators comma) = after_all names enumerators
   after names (Enumerator span name value) = ordinary name (after_all names value)
   after names (Fields span specifiers fields) = after_all (after_all names specifiers) fields
@@ -78,11 +65,9 @@ abbrev mutual
   after names (Field span declarator width attributes) = after_all (after names declarator) width
   after names (Padding span width) = after names width
   after names (Declarator span pointers core suffixes) = after_all (after names core) suffixes
-  after names Absent = names
-  after names (Declared span name) = names
   after names (Group span inner) = after names inner
   after names (Array span qualifiers bound) = after_all names bound
-  after names (Function span parameters variadic) = names
+  after names _ = names
 
   pub after_all : Names → Trees → Names
   after_all names Nil = names
@@ -174,13 +159,7 @@ place_of (Run span first more) = Some span
 place_of (Conditional span condition when_true when_false) = Some span
 place_of (Assignment span target operator value) = Some span
 place_of (Comma span first more) = Some span
-place_of (Index index) = None
 place_of (Call opening arguments) = Some opening
-place_of (Dot name) = None
-place_of (Arrow name) = None
-place_of Increment = None
-place_of Decrement = None
-place_of (Operand operator operand) = None
 place_of (TypeName span specifiers declarator) = Some span
 place_of (Key span keyword) = Some span
 place_of (Typedef span name) = Some span
@@ -195,13 +174,12 @@ place_of (Assertion span condition literals) = Some span
 place_of (Field span declarator width attributes) = Some span
 place_of (Padding span width) = Some span
 place_of (Declarator span pointers core suffixes) = Some span
-place_of Absent = None
 place_of (Declared span name) = Some span
 place_of (Group span inner) = Some span
 place_of (Array span qualifiers bound) = Some span
 place_of (Function span parameters variadic) = Some span
+place_of _ = None
 
--- the place of the first of some trees, or of what stands behind them
 abbrev pub first_place : Trees → Option Span
 first_place Nil = None
 first_place (Next t more) = place_of t
@@ -508,3 +486,10 @@ abbrev mutual
   IsSuffix names (Array span qualifiers bound) = AllByRecursion (λ (k : Keyword). IsTrue (is_array_word k)) qualifiers × IsOptional 1 names bound
   IsSuffix names (Function span parameters variadic) = IsVariadic variadic parameters × AreParameters names parameters
   IsSuffix names _ = ⊥
+
+-- An expression where these names are declared, of at least this level, and at most so many nodes deep. An expression by itself has
+-- level 0; a constant expression (C11 6.6) has level 2.
+pub record IsWithin (names : Names) (least depth : ℕ) (t : Tree) : Type 0 where
+  pub shape : IsExpr names t
+  pub tight : least ≤ level_of t
+  pub shallow : nest t ≤ depth
