@@ -1,0 +1,202 @@
+//! Which words a tree spells.
+ghost use Rattle.std.specs.Prelude.{◌≡◌, ◌∷◌, ◌++◌, [], OnOk, IfOk};
+ghost use Rattle.c_prog.specs.declared.token.Punctuator.TheVariants as mark;
+ghost use Rattle.c_prog.specs.declared.token.Word.TheVariants as word;
+ghost use Rattle.c_tree.specs.Spelling.{words_of, pieces, pieces_of_all, pieces_behind, pieces_with_commas, spell};
+ghost use Rattle.c_tree.specs.Views.{tree_of, part_tree, exprs_of, parts_of, operands_of, type_name_tree};
+
+use crate::plain_words::{comma_where, identifier, keyword, mark, text};
+use crate::tree::{Expr, Operand, PostfixPart, TypeName};
+use crate::type_words::type_name;
+use c_prog::token::{Keyword, Punctuator, Word};
+use sqlite_items::Items;
+use std::alloc::{AllocError, Global};
+
+#[cycle(spelling)]
+fn exprs(alloc: Global, out: &mut Items<Word>, behind: bool, all: &[Expr]) -> Result<(), AllocError>
+    ensures { OnOk result (out.new ≡ out.old ++ words_of (pieces_with_commas behind (exprs_of all.now))) }
+{
+    let mut is_behind = behind;
+    for each in all {
+        comma_where(out, is_behind)?;
+        is_behind = true;
+        expr(alloc, out, each)?;
+    }
+    Ok(())
+}
+
+#[cycle(spelling)]
+fn part(alloc: Global, out: &mut Items<Word>, part: &PostfixPart) -> Result<(), AllocError>
+    ensures { OnOk result (out.new ≡ out.old ++ words_of (pieces (part_tree part.now))) }
+{
+    match part {
+        PostfixPart::Index(index) => {
+            mark(out, Punctuator::OpenBracket)?;
+            expr(alloc, out, index)?;
+            mark(out, Punctuator::CloseBracket)
+        }
+        PostfixPart::Call {
+            opening: _,
+            arguments,
+        } => {
+            mark(out, Punctuator::OpenParenthesis)?;
+            exprs(alloc, out, false, arguments.as_slice())?;
+            mark(out, Punctuator::CloseParenthesis)
+        }
+        PostfixPart::Member(name) => {
+            mark(out, Punctuator::Dot)?;
+            identifier(alloc, out, name)
+        }
+        PostfixPart::Arrow(name) => {
+            mark(out, Punctuator::Arrow)?;
+            identifier(alloc, out, name)
+        }
+        PostfixPart::Increment => mark(out, Punctuator::Increment),
+        PostfixPart::Decrement => mark(out, Punctuator::Decrement),
+    }
+}
+
+#[cycle(spelling)]
+fn parts(alloc: Global, out: &mut Items<Word>, all: &[PostfixPart]) -> Result<(), AllocError>
+    ensures { OnOk result (out.new ≡ out.old ++ words_of (pieces_of_all (parts_of all.now))) }
+{
+    for each in all {
+        part(alloc, out, each)?;
+    }
+    Ok(())
+}
+
+#[cycle(spelling)]
+fn operands(alloc: Global, out: &mut Items<Word>, all: &[Operand]) -> Result<(), AllocError>
+    ensures { OnOk result (out.new ≡ out.old ++ words_of (pieces_of_all (operands_of all.now))) }
+{
+    for each in all {
+        mark(out, each.operator.punctuator())?;
+        expr(alloc, out, &each.operand)?;
+    }
+    Ok(())
+}
+
+#[cycle(spelling)]
+pub(crate) fn expr(alloc: Global, out: &mut Items<Word>, tree: &Expr) -> Result<(), AllocError>
+    ensures { OnOk result (out.new ≡ out.old ++ words_of (pieces (tree_of tree.now))) }
+{
+    match tree {
+        Expr::Name { span: _, name } => identifier(alloc, out, name),
+        Expr::Integer { span: _, constant } => out.push(Word::Integer(*constant)),
+        Expr::Floating { span: _ } => out.push(Word::Floating),
+        Expr::Character { span: _, byte } => out.push(Word::Character(*byte)),
+        Expr::Text {
+            span,
+            literals: all,
+        } => text(alloc, out, all.as_slice(), *span),
+        Expr::Parenthesised { span: _, inner } => {
+            mark(out, Punctuator::OpenParenthesis)?;
+            expr(alloc, out, inner.get())?;
+            mark(out, Punctuator::CloseParenthesis)
+        }
+        Expr::Postfix {
+            span: _,
+            first,
+            parts: all,
+        } => {
+            expr(alloc, out, first.get())?;
+            parts(alloc, out, all.as_slice())
+        }
+        Expr::Prefix {
+            span: _,
+            operator,
+            operand,
+        } => {
+            out.push(operator.word())?;
+            expr(alloc, out, operand.get())
+        }
+        Expr::OfType {
+            span: _,
+            operator,
+            type_name: asked,
+        } => {
+            out.push(operator.word())?;
+            in_parentheses(alloc, out, asked.get())
+        }
+        Expr::Offsetof {
+            span: _,
+            type_name: asked,
+            member,
+        } => {
+            keyword(out, Keyword::BuiltinOffsetof)?;
+            mark(out, Punctuator::OpenParenthesis)?;
+            type_name(alloc, out, asked.get())?;
+            mark(out, Punctuator::Comma)?;
+            identifier(alloc, out, member)?;
+            mark(out, Punctuator::CloseParenthesis)
+        }
+        Expr::Cast {
+            span: _,
+            type_name: target,
+            operand,
+        } => {
+            in_parentheses(alloc, out, target.get())?;
+            expr(alloc, out, operand.get())
+        }
+        Expr::Run {
+            span: _,
+            first,
+            more,
+        } => {
+            expr(alloc, out, first.get())?;
+            operands(alloc, out, more.as_slice())
+        }
+        Expr::Conditional {
+            span: _,
+            condition,
+            when_true,
+            when_false,
+        } => {
+            expr(alloc, out, condition.get())?;
+            mark(out, Punctuator::Question)?;
+            expr(alloc, out, when_true.get())?;
+            mark(out, Punctuator::Colon)?;
+            expr(alloc, out, when_false.get())
+        }
+        Expr::Assignment {
+            span: _,
+            target,
+            operator,
+            value,
+        } => {
+            expr(alloc, out, target.get())?;
+            mark(out, operator.punctuator())?;
+            expr(alloc, out, value.get())
+        }
+        Expr::Comma {
+            span: _,
+            first,
+            more,
+        } => {
+            expr(alloc, out, first.get())?;
+            exprs(alloc, out, true, more.as_slice())
+        }
+    }
+}
+
+// A type name in parentheses.
+#[cycle(spelling)]
+fn in_parentheses(alloc: Global, out: &mut Items<Word>, name: &TypeName) -> Result<(), AllocError>
+    ensures { OnOk result (out.new ≡ out.old ++ word.Punctuator mark.OpenParenthesis ∷ words_of (pieces (type_name_tree name.now)) ++ word.Punctuator mark.CloseParenthesis ∷ []) }
+{
+    mark(out, Punctuator::OpenParenthesis)?;
+    type_name(alloc, out, name)?;
+    mark(out, Punctuator::CloseParenthesis)
+}
+
+impl Expr {
+    /// The words that the expression spells.
+    pub fn spell(&self, alloc: Global) -> Result<Items<Word>, AllocError>
+        ensures { IfOk result (λ words. words ≡ spell (tree_of self.now)) }
+    {
+        let mut words = Items::new(alloc);
+        expr(alloc, &mut words, self)?;
+        Ok(words)
+    }
+}
