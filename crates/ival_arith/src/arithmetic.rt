@@ -1,0 +1,162 @@
+//! C's arithmetic on sets of integers (C11 6.5.3.3, 6.5.5 and 6.5.6).
+
+ghost use Rattle.std.specs.Prelude.{◌≡◌, ◌↔◌, ◌<◌, ◌≤◌, ℤ, pos, ◌+ℤ◌, ◌≤ℤ◌, IsTrue, false, ◌&&◌, ◌*◌, ◌^◌, ◌-◌, ◌+◌, min};
+ghost use Rattle.c_prog.specs.Integers.{FitsBits, least_of, greatest_of};
+ghost use Rattle.ival_core.specs.Sets.{IsNumber, IsLongRun, Has};
+ghost use Rattle.ival_core.specs.Ivals.{Holds};
+ghost use Rattle.ival_core.specs.Views.{bounds_of};
+ghost use Rattle.ival_arith.specs.Values.{extent, is_natural, spread, added, multiplied, long_value, value};
+ghost use Rattle.ival_arith.specs.Kinds.{holds_number, sums_leave, products_leave, overflows, divides_by_zero, kind_set, kinds};
+ghost use Rattle.ival_arith.specs.Promises.{InType};
+
+use crate::format::{Format, format_of, power};
+use crate::pieces::{Change, changed, clipped};
+use crate::products::{extent, is_natural, lines, spread};
+use crate::sums::sums;
+use crate::values::{few_results, residues};
+use c_prog::kind::{Kind, KindSet};
+use c_prog::tree::{BinOp, IntKind, Machine};
+use ival_core::{Ival, Progression, Shape};
+
+const LIMIT: i128 = 0x100_0000_0000_0000_0000_0000_0000_0000;
+
+/// Sums in a type: those that it can hold, or all of them reduced.
+fn added(format: Format, a: &Ival, b: &Ival) -> Ival
+    requires { (x y : ℤ) → Holds a.now x → Holds b.now y → IsNumber (x +ℤ y) }
+    ensures { result.shape ≡ added format.signed format.width a.now.shape b.now.shape }
+{
+    if format.signed {
+        sums(a, b, format.least(), format.greatest())
+    } else {
+        residues(&sums(a, b, -LIMIT, LIMIT), power(format.width))
+    }
+}
+
+fn both(a: bool, b: bool) -> bool
+    ensures { result ≡ (a && b) }
+{
+    if a { b } else { false }
+}
+
+/// How far results of products are from 0.
+fn product_extent(a: &Ival, b: &Ival) -> u128
+    requires left { extent (bounds_of a.now.shape) ≤ 2 ^ 63 + 2 ^ 63 - 1 }
+    requires right { extent (bounds_of b.now.shape) ≤ 2 ^ 63 + 2 ^ 63 - 1 }
+    ensures value { result ≡ min (extent (bounds_of a.now.shape) * extent (bounds_of b.now.shape)) (2 ^ 65) }
+    ensures small { result ≤ 2 ^ 65 }
+{
+    (extent(a) * extent(b)).min(1 << 65)
+}
+
+/// Products of long sets, in a type.
+fn product_hull(format: Format, a: &Ival, b: &Ival) -> Ival
+    requires left { InType format.signed format.width a.now }
+    requires right { InType format.signed format.width b.now }
+    ensures { result.shape
+        ≡ spread format.signed format.width (is_natural (bounds_of a.now.shape) && is_natural (bounds_of b.now.shape)) (min (extent (bounds_of a.now.shape) * extent (bounds_of b.now.shape)) (2 ^ 65)) }
+{
+    spread(
+        format,
+        both(is_natural(a), is_natural(b)),
+        product_extent(a, b),
+    )
+}
+
+/// Products of a run and a set, in a type.
+fn run_multiplied(format: Format, a: &Ival, run: Progression, b: &Ival) -> Ival
+    requires run { a.now.shape ≡ Shape.Many run }
+    requires left { InType format.signed format.width a.now }
+    requires right { InType format.signed format.width b.now }
+    ensures { result.shape ≡ multiplied format.signed format.width a.now.shape b.now.shape }
+{
+    match b.shape() {
+        Shape::Few(few) => lines(format, run, few.as_slice()),
+        Shape::Many(_) => product_hull(format, a, b),
+    }
+}
+
+/// Products of few numbers and a set, in a type.
+fn few_multiplied(format: Format, a: &Ival, numbers: &[i128], b: &Ival) -> Ival
+    requires few { a.now.shape ≡ Shape.Few (record { items = numbers.now }) }
+    requires left { InType format.signed format.width a.now }
+    requires right { InType format.signed format.width b.now }
+    ensures { result.shape ≡ multiplied format.signed format.width a.now.shape b.now.shape }
+{
+    match b.shape() {
+        Shape::Few(_) => Ival::empty(),
+        Shape::Many(run) => lines(format, *run, numbers),
+    }
+}
+
+/// Products in a type, where one of the sets is long.
+fn multiplied(format: Format, a: &Ival, b: &Ival) -> Ival
+    requires left { InType format.signed format.width a.now }
+    requires right { InType format.signed format.width b.now }
+    ensures { result.shape ≡ multiplied format.signed format.width a.now.shape b.now.shape }
+{
+    match a.shape() {
+        Shape::Few(few) => few_multiplied(format, a, few.as_slice(), b),
+        Shape::Many(run) => run_multiplied(format, a, *run, b),
+    }
+}
+
+/// Quotients of long sets, in a type.
+fn divided(format: Format, a: &Ival, b: &Ival) -> Ival
+    requires left { InType format.signed format.width a.now }
+    ensures { result.shape
+        ≡ spread format.signed format.width (is_natural (bounds_of a.now.shape) && is_natural (bounds_of b.now.shape)) (extent (bounds_of a.now.shape)) }
+{
+    spread(format, both(is_natural(a), is_natural(b)), extent(a))
+}
+
+/// Remainders of long sets, in a type.
+fn remainders(format: Format, a: &Ival, b: &Ival) -> Ival
+    requires left { InType format.signed format.width a.now }
+    ensures { result.shape
+        ≡ spread format.signed format.width (is_natural (bounds_of a.now.shape)) (min (extent (bounds_of a.now.shape)) (extent (bounds_of b.now.shape) - 1)) }
+{
+    let below = extent(b).saturating_sub(1);
+    spread(format, is_natural(a), extent(a).min(below))
+}
+
+/// Results in a type, where one of the sets is long.
+fn long_value(op: BinOp, format: Format, a: &Ival, b: &Ival) -> Ival
+    requires left { InType format.signed format.width a.now }
+    requires right { InType format.signed format.width b.now }
+    ensures { result.shape ≡ long_value op format.signed format.width a.now.shape b.now.shape }
+{
+    match op {
+        BinOp::Add => added(format, a, b),
+        BinOp::Sub => added(format, a, &changed(b, Change::Negative)),
+        BinOp::Mul => multiplied(format, a, b),
+        BinOp::Div => divided(format, a, b),
+        BinOp::Rem => remainders(format, a, b),
+        BinOp::And | BinOp::Or | BinOp::Xor | BinOp::Shl | BinOp::Shr => Ival::empty(),
+        BinOp::Lt | BinOp::Le | BinOp::Gt | BinOp::Ge | BinOp::Eq | BinOp::Ne => Ival::empty(),
+    }
+}
+
+/// What an operator gives on two sets of numbers of a type.
+pub(crate) fn value(op: BinOp, format: Format, a: &Ival, b: &Ival) -> Ival
+    requires left { InType format.signed format.width a.now }
+    requires right { InType format.signed format.width b.now }
+    ensures { result.shape ≡ value op format.signed format.width a.now.shape b.now.shape }
+{
+    match a.shape() {
+        Shape::Few(few) => few_value(op, format, a, few.as_slice(), b),
+        Shape::Many(_) => long_value(op, format, a, b),
+    }
+}
+
+/// `a` has these few numbers.
+fn few_value(op: BinOp, format: Format, a: &Ival, numbers: &[i128], b: &Ival) -> Ival
+    requires few { a.now.shape ≡ Shape.Few (record { items = numbers.now }) }
+    requires left { InType format.signed format.width a.now }
+    requires right { InType format.signed format.width b.now }
+    ensures { result.shape ≡ value op format.signed format.width a.now.shape b.now.shape }
+{
+    match b.shape() {
+        Shape::Few(few) => few_results(op, format, numbers, few.as_slice()),
+        Shape::Many(_) => long_value(op, format, a, b),
+    }
+}

@@ -1,0 +1,20 @@
+#![tactic(auto)]
+
+//! C's arithmetic on sets of integers (C11 6.5.3.3, 6.5.5, 6.5.6, 6.5.8 and 6.5.9).
+//!
+//! No call takes memory.
+
+mod answers;
+mod arithmetic;
+mod exact;
+mod format;
+mod kinds;
+mod pieces;
+mod products;
+mod relations;
+mod sums;
+mod values;
+
+pub use answers::{Answer, binary, negate};
+pub use exact::{exact_add, exact_sub};
+pub use relations::{Truths, compare};
