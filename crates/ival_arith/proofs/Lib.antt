@@ -20,3 +20,5 @@ pub mod TableCodes
 pub mod KindCodes
 pub mod Answering
 pub mod Negating
+pub mod TermSets
+pub mod TermCodes

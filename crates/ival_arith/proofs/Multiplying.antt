@@ -99,12 +99,12 @@ not_zero (pos zero) e = cc
 not_zero (pos (suc n)) e = omega arith
 not_zero (negsuc n) e = omega arith
 
-turn_product : (x : ℤ) (y : ℤ) → y <ℤ pos 0 → neg_ℤ x *ℤ pos (unsigned_abs y) ≡ x *ℤ y
+pub turn_product : (x : ℤ) (y : ℤ) → y <ℤ pos 0 → neg_ℤ x *ℤ pos (unsigned_abs y) ≡ x *ℤ y
 turn_product x (pos n) h = absurd (omega (arith, ints))
 turn_product x (negsuc n) h =
     *ℤ_comm (neg_ℤ x) (pos (suc n)) ∙ mul-neg (pos (suc n)) x ∙ ap neg_ℤ (*ℤ_comm (pos (suc n)) x) ∙ sym (*ℤ-negsuc x n)
 
-keep_product : (x : ℤ) (y : ℤ) → pos 0 ≤ℤ y → x *ℤ pos (unsigned_abs y) ≡ x *ℤ y
+pub keep_product : (x : ℤ) (y : ℤ) → pos 0 ≤ℤ y → x *ℤ pos (unsigned_abs y) ≡ x *ℤ y
 keep_product x (pos n) h = refl
 keep_product x (negsuc n) h = absurd (omega (arith, ints))
 

@@ -200,12 +200,12 @@ multiplied-fits signed width (Few v) (Many q) w o a b =
 multiplied-fits signed width (Many p) (Many q) w o a b = absurd o
 multiplied-fits signed width (Few v) (Few u) w o a b = absurd o
 
-both_true : (x y : Bool) → (x && y) ≡ true → (x ≡ true) × (y ≡ true)
+pub both_true : (x y : Bool) → (x && y) ≡ true → (x ≡ true) × (y ≡ true)
 both_true true true e = (refl, refl)
 both_true true false e = cc
 both_true false y e = cc
 
-natural_product : (x y : ℤ) → pos 0 ≤ℤ x → pos 0 ≤ℤ y → pos 0 ≤ℤ (x *ℤ y)
+pub natural_product : (x y : ℤ) → pos 0 ≤ℤ x → pos 0 ≤ℤ y → pos 0 ≤ℤ (x *ℤ y)
 natural_product (pos a) (pos b) h k = omega (arith, ints)
 natural_product (pos a) (negsuc b) h k = absurd (omega (arith, ints))
 natural_product (negsuc a) y h k = absurd (omega (arith, ints))
@@ -275,7 +275,7 @@ quotient_near (pos a) (negsuc b) = let h = div-le_self a (suc b) in omega (arith
 quotient_near (negsuc a) (pos b) = let h = div-le_self (suc a) b in omega (arith, ints)
 quotient_near (negsuc a) (negsuc b) = div-le_self (suc a) (suc b)
 
-quotient_natural : (x y : ℤ) → pos 0 ≤ℤ x → pos 0 ≤ℤ y → pos 0 ≤ℤ int_div x y
+pub quotient_natural : (x y : ℤ) → pos 0 ≤ℤ x → pos 0 ≤ℤ y → pos 0 ≤ℤ int_div x y
 quotient_natural (pos a) (pos b) h k = omega (arith, ints)
 quotient_natural (pos a) (negsuc b) h k = absurd (omega (arith, ints))
 quotient_natural (negsuc a) y h k = absurd (omega (arith, ints))
@@ -330,13 +330,13 @@ quotient_spread signed width s t w a b =
     }
 
 -- a remainder lies between 0 and what is divided, and is less than the divisor
-record Rest (x y n : ℤ) : Type 0 where
-  near : unsigned_abs n ≤ unsigned_abs x
-  below : unsigned_abs n < unsigned_abs y
-  up : pos 0 ≤ℤ x → (pos 0 ≤ℤ n) × (n ≤ℤ x)
-  down : x <ℤ pos 0 → (x ≤ℤ n) × (n ≤ℤ pos 0)
+pub record Rest (x y n : ℤ) : Type 0 where
+  pub near : unsigned_abs n ≤ unsigned_abs x
+  pub below : unsigned_abs n < unsigned_abs y
+  pub up : pos 0 ≤ℤ x → (pos 0 ≤ℤ n) × (n ≤ℤ x)
+  pub down : x <ℤ pos 0 → (x ≤ℤ n) × (n ≤ℤ pos 0)
 
-rest_is : (x y : ℤ) → 0 < unsigned_abs y → Rest x y (int_rem x y)
+pub rest_is : (x y : ℤ) → 0 < unsigned_abs y → Rest x y (int_rem x y)
 rest_is (pos a) y h =
     let k = mod-le a (unsigned_abs y) in
     record { near = k; below = rem_below (pos a) y h; up = λ i. (omega (arith, ints), omega (arith, ints)); down = λ i. absurd (omega (arith, ints)) }
@@ -344,7 +344,7 @@ rest_is (negsuc a) y h =
     let k = mod-le (suc a) (unsigned_abs y) in
     record { near = omega (arith, ints); below = rem_below (negsuc a) y h; up = λ i. absurd (omega (arith, ints)); down = λ i. (omega (arith, ints), omega (arith, ints)) }
 
-some_divisor : (y : ℤ) → is_zero y ≡ false → 0 < unsigned_abs y
+pub some_divisor : (y : ℤ) → is_zero y ≡ false → 0 < unsigned_abs y
 some_divisor (pos zero) e = cc
 some_divisor (pos (suc n)) e = omega arith
 some_divisor (negsuc n) e = omega arith

@@ -5,3 +5,4 @@ pub mod Exact
 pub mod Values
 pub mod Kinds
 pub mod Answers
+pub mod Terms

@@ -18,6 +18,7 @@ use c_prog::tree::{BinOp, IntKind, Machine};
 use ival_core::Ival;
 
 /// What an operator gives on sets of numbers.
+#[derive(Drop)]
 pub struct Answer {
     /// Holds each result.
     pub value: Ival,

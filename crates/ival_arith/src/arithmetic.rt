@@ -32,7 +32,7 @@ fn added(format: Format, a: &Ival, b: &Ival) -> Ival
     }
 }
 
-fn both(a: bool, b: bool) -> bool
+pub(crate) fn both(a: bool, b: bool) -> bool
     ensures { result ≡ (a && b) }
 {
     if a { b } else { false }

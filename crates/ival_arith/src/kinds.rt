@@ -21,7 +21,7 @@ pub(crate) fn holds_number(set: &Ival, n: i128) -> bool
     set.contains(n)
 }
 
-fn holds_some(set: &Ival) -> bool
+pub(crate) fn holds_some(set: &Ival) -> bool
     ensures { result ≡ holds_some (bounds_of set.now.shape) }
 {
     match set.bounds() {
@@ -82,7 +82,7 @@ fn ends_leave(format: Format, n: i128, low: i128, high: i128) -> bool
     either(leave(format, first, first), leave(format, last, last))
 }
 
-fn either(a: bool, b: bool) -> bool
+pub(crate) fn either(a: bool, b: bool) -> bool
     ensures { result ≡ (a || b) }
 {
     if a { true } else { b }

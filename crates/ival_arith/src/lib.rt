@@ -13,8 +13,13 @@ mod pieces;
 mod products;
 mod relations;
 mod sums;
+mod terms;
 mod values;
 
 pub use answers::{Answer, binary, negate};
 pub use exact::{exact_add, exact_sub};
 pub use relations::{Truths, compare};
+pub use terms::{exact_div, exact_mul, exact_rem};
+
+#[cfg(test)]
+mod tests;

@@ -89,7 +89,7 @@ pub(crate) fn lines(format: Format, run: Progression, others: &[i128]) -> Ival
     all
 }
 
-fn low_of(natural: bool, m: u128) -> i128
+pub(crate) fn low_of(natural: bool, m: u128) -> i128
     requires { m < 2 ^ 127 }
     ensures value { result ≡ cond natural (pos 0) (neg_ℤ (pos m)) }
     ensures below { result ≤ℤ pos 0 }

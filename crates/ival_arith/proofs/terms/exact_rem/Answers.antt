@@ -1,0 +1,15 @@
+use Rattle.ival_arith.proofs.terms.exact_rem.Goals as goal
+use Rattle.ival_arith.specs.declared.terms.Term.TheVariants.{Remainder}
+use Rattle.ival_arith.proofs.TermCodes.{term_holds, term_single, term_divided}
+
+-- src/terms.rt:287:1
+pub returns-clause-divided : goal.returns-clause-divided
+returns-clause-divided c = term_divided Remainder c.args.a.now c.args.b.now c.exact_term.result (λ x y h. h) c.exact_term.ensures.defined
+
+-- src/terms.rt:287:1
+pub returns-clause-holds : goal.returns-clause-holds
+returns-clause-holds c = term_holds Remainder c.args.a.now c.args.b.now c.exact_term.result c.exact_term.ensures.value c.exact_term.ensures.defined
+
+-- src/terms.rt:287:1
+pub returns-clause-single : goal.returns-clause-single
+returns-clause-single c = term_single Remainder c.args.a.now c.args.b.now c.exact_term.result c.exact_term.ensures.value c.exact_term.ensures.defined
