@@ -1,4 +1,5 @@
 pub mod Fits
+pub mod Singling
 pub mod Parts
 pub mod Cycles
 pub mod Distinct
@@ -22,3 +23,4 @@ pub mod Answering
 pub mod Negating
 pub mod TermSets
 pub mod TermCodes
+pub mod Residuals

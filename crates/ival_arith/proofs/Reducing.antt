@@ -76,7 +76,7 @@ run_residues-fits m p h k l =
     })
     (cycle-fits m (residue m p.low) (p.stride % m) n h k g.more)
 
-residue_number : (m : ℕ) (n : ℤ) → 0 < m → m ≤ 2 ^ 64 → IsNumber (pos (residue m n))
+pub residue_number : (m : ℕ) (n : ℤ) → 0 < m → m ≤ 2 ^ 64 → IsNumber (pos (residue m n))
 residue_number m n h k = let b = residue_below m n h in record { least = omega (arith, ints); greatest = omega (arith, ints) }
 
 pub residues-fits : (m : ℕ) (s : Shape) → 0 < m → m ≤ 2 ^ 64 → IsValid s → Fits (Image (Has s) (λ n. pos (residue m n))) (residues m s)

@@ -26,6 +26,7 @@ use Rattle.ival_arith.specs.Pieces.{none, gathered, all_changed}
 use Rattle.ival_arith.specs.Values.{extent, is_natural}
 use Rattle.ival_arith.specs.Kinds.{holds_number, holds_some, is_out}
 use Rattle.ival_arith.specs.Terms.{term, IsDefined, terms, crossed, around, scaled, scaled_onto, long_term, term_value, lacks, AllDefined, Lacks}
+use Rattle.ival_arith.proofs.Singling.{single_shape}
 use Rattle.ival_arith.proofs.Fits.{Makes-same, Exactly, gathered-makes, gathered-exactly, none-exactly}
 use Rattle.ival_arith.proofs.Parts.{Image, all_changed-exactly, run-exactly}
 use Rattle.ival_arith.proofs.Adding.{at_first}
@@ -359,25 +360,7 @@ sets op a b d = record { left = a.valid; right = b.valid; defined = record { def
 -- ---- single numbers
 
 pub only_shape : (v : Ival) (x : ℤ) → IsOnly v x → v.shape ≡ Few (record { items = x ∷ [] })
-only_shape v x h = by_shape v.shape v.valid h
-  where
-    by_shape : (s : Shape) → IsValid s → ((k : ℤ) → Has s k ↔ (k ≡ x)) → s ≡ Few (record { items = x ∷ [] })
-    by_shape (Many p) l h =
-        let e = (h (p.low +ℤ pos (0 * p.stride))).0 (at_first p l 0 (omega arith)) in
-        let f = (h (p.low +ℤ pos (1 * p.stride))).0 (at_first p l 1 (omega arith)) in
-        let m = l.moves in absurd (two p.low p.stride x e f m)
-      where
-        two : (low : ℤ) (s : ℕ) (x : ℤ) → low +ℤ pos (0 * s) ≡ x → low +ℤ pos (1 * s) ≡ x → 0 < s → ⊥
-        two low s x e f m = omega (arith, ints)
-    by_shape (Few v) l h = by_items v.items l.ascending h
-      where
-        below : (a b x : ℤ) → a <ℤ b → a ≡ x → b ≡ x → ⊥
-        below a b x l e f = omega (arith, ints)
-
-        by_items : (xs : List ℤ) → IsAscending xs → ((k : ℤ) → Among xs k ↔ (k ≡ x)) → Few (record { items = xs }) ≡ Few (record { items = x ∷ [] })
-        by_items [] a h = absurd ((h x).1 refl)
-        by_items (y ∷ []) a h = ap (λ z. Few (record { items = z ∷ [] })) ((h y).0 (inl refl))
-        by_items (y ∷ z ∷ ys) a h = absurd (below y z x a.0.0 ((h y).0 (inl refl)) ((h z).0 (inr (inl refl))))
+only_shape v x h = single_shape v.shape x v.valid h
 
 single_crossed : (op : Term) (x y : ℤ) → crossed op (x ∷ []) (y ∷ []) ≡ term op x y ∷ []
 unfolding crossed terms

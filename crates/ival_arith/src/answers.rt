@@ -27,7 +27,7 @@ pub struct Answer {
 }
 
 /// The numbers that the type can hold.
-fn typed(format: Format, set: &Ival) -> Ival
+pub fn typed(format: Format, set: &Ival) -> Ival
     ensures value { result.shape ≡ typed format.signed format.width set.now.shape }
     ensures typed { InType format.signed format.width result }
 {

@@ -8,7 +8,7 @@ use c_prog::tree::{IntKind, Machine};
 
 /// An integer type of a machine: with or without a sign, in `width` bits.
 #[derive(Clone, Copy)]
-pub(crate) struct Format {
+pub struct Format {
     pub kind: IntKind,
     pub machine: Machine,
     pub signed: bool,
@@ -19,7 +19,8 @@ pub(crate) struct Format {
     ghost room: { width ≤ 64 },
 }
 
-pub(crate) fn format_of(kind: IntKind, machine: Machine) -> Format
+/// How the machine keeps the numbers of a type.
+pub fn format_of(kind: IntKind, machine: Machine) -> Format
     ensures kind { result.kind ≡ kind }
     ensures machine { result.machine ≡ machine }
 {
@@ -47,7 +48,7 @@ pub(crate) fn format_of(kind: IntKind, machine: Machine) -> Format
 }
 
 /// 2 to the `exponent`.
-pub(crate) fn power(exponent: u32) -> u128
+pub fn power(exponent: u32) -> u128
     requires { exponent ≤ 64 }
     ensures value { result ≡ 2 ^ exponent }
     ensures some { 0 < result }
@@ -58,7 +59,7 @@ pub(crate) fn power(exponent: u32) -> u128
 
 impl Format {
     /// The least number of the type.
-    pub(crate) fn least(self) -> i128
+    pub fn least(self) -> i128
         ensures value { result ≡ integers.least_of self.signed self.width }
         ensures below { result ≤ℤ pos 0 }
         ensures number { IsNumber result }
@@ -71,7 +72,7 @@ impl Format {
     }
 
     /// The greatest number of the type.
-    pub(crate) fn greatest(self) -> i128
+    pub fn greatest(self) -> i128
         ensures value { result ≡ integers.greatest_of self.signed self.width }
         ensures above { pos 0 ≤ℤ result }
         ensures number { IsNumber result }

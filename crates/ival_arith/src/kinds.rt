@@ -15,7 +15,7 @@ use c_prog::tree::BinOp;
 use ival_core::Ival;
 
 /// `n` is one of the numbers.
-pub(crate) fn holds_number(set: &Ival, n: i128) -> bool
+pub fn holds_number(set: &Ival, n: i128) -> bool
     ensures { result ≡ holds_number set.now.shape n }
 {
     set.contains(n)

@@ -12,14 +12,19 @@ mod kinds;
 mod pieces;
 mod products;
 mod relations;
-mod sums;
+pub mod sums;
 mod terms;
 mod values;
 
-pub use answers::{Answer, binary, negate};
+pub use answers::{Answer, binary, negate, typed};
 pub use exact::{exact_add, exact_sub};
+pub use format::{Format, format_of, power};
+pub use kinds::holds_number;
+pub use pieces::{Change, changed, clipped, join, with};
+pub use products::product_line;
 pub use relations::{Truths, compare};
 pub use terms::{exact_div, exact_mul, exact_rem};
+pub use values::{few_results, residue, residues};
 
 #[cfg(test)]
 mod tests;

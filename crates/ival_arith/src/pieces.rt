@@ -17,14 +17,14 @@ pub enum Change {
 }
 
 /// The least set that holds both.
-pub(crate) fn join(a: &Ival, b: &Ival) -> Ival
+pub fn join(a: &Ival, b: &Ival) -> Ival
     ensures { result.shape ≡ joined a.now.shape b.now.shape }
 {
     a.join(b)
 }
 
 /// The least set that holds one number more.
-pub(crate) fn with(set: &Ival, n: i128) -> Ival
+pub fn with(set: &Ival, n: i128) -> Ival
     requires { IsNumber n }
     ensures { result.shape ≡ with_number set.now.shape n }
 {
@@ -98,7 +98,7 @@ fn run_with(run: Progression, change: Change) -> Ival
 }
 
 /// What becomes of the numbers of a set.
-pub(crate) fn changed(set: &Ival, change: Change) -> Ival
+pub fn changed(set: &Ival, change: Change) -> Ival
     requires change { CanChange change }
     requires numbers { (n : ℤ) → Holds set.now n → IsNumber (changed change n) }
     ensures { result.shape ≡ all_changed change set.now.shape }
@@ -150,7 +150,7 @@ pub(crate) fn run_clipped(run: Progression, lo: i128, hi: i128) -> Ival
 }
 
 /// The numbers from `lo` to `hi`.
-pub(crate) fn clipped(set: &Ival, lo: i128, hi: i128) -> Ival
+pub fn clipped(set: &Ival, lo: i128, hi: i128) -> Ival
     requires lo { IsNumber lo }
     requires hi { IsNumber hi }
     ensures { result.shape ≡ clipped lo hi set.now.shape }

@@ -25,7 +25,7 @@ fn turned(run: Progression, negative: bool) -> Ival
 }
 
 /// The products of the numbers of a run with `y` that lie from `-below` to `above`.
-fn product_line(below: u128, above: u128, run: Progression, y: i128) -> Ival
+pub fn product_line(below: u128, above: u128, run: Progression, y: i128) -> Ival
     requires run { IsLongRun run }
     requires below { below ≤ 2 ^ 64 }
     requires above { above ≤ 2 ^ 64 }

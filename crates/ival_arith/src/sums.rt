@@ -114,7 +114,7 @@ fn run_sums(p: Progression, q: Progression, lo: i128, hi: i128) -> Ival
 }
 
 /// The sums of the numbers of two sets that lie from `lo` to `hi`.
-pub(crate) fn sums(a: &Ival, b: &Ival, lo: i128, hi: i128) -> Ival
+pub fn sums(a: &Ival, b: &Ival, lo: i128, hi: i128) -> Ival
     requires lo { IsNumber lo }
     requires hi { IsNumber hi }
     requires sums { (x y : ℤ) → Holds a.now x → Holds b.now y → IsNumber (x +ℤ y) }

@@ -45,7 +45,7 @@ fn with_row(set: &Ival, op: BinOp, format: Format, x: i128, others: &[i128]) -> 
 }
 
 /// The results of each of `numbers` with each of `others`.
-pub(crate) fn few_results(op: BinOp, format: Format, numbers: &[i128], others: &[i128]) -> Ival
+pub fn few_results(op: BinOp, format: Format, numbers: &[i128], others: &[i128]) -> Ival
     requires left { (x : ℤ) → Among numbers.now x → FitsKind format.kind format.machine x }
     requires right { (y : ℤ) → Among others.now y → FitsKind format.kind format.machine y }
     ensures { result.shape ≡ gathered (rows op format.signed format.width numbers.now others.now) }
@@ -58,7 +58,7 @@ pub(crate) fn few_results(op: BinOp, format: Format, numbers: &[i128], others: &
 }
 
 /// What `n` leaves modulo `m`.
-fn residue(m: u128, n: i128) -> u128
+pub fn residue(m: u128, n: i128) -> u128
     requires modulus { (0 < m) × (m ≤ 2 ^ 64) }
     ensures value { result ≡ integers.residue m n }
     ensures below { result < m }
@@ -87,7 +87,7 @@ fn run_residues(run: Progression, m: u128) -> Ival
 }
 
 /// What the numbers of a set leave modulo `m`.
-pub(crate) fn residues(set: &Ival, m: u128) -> Ival
+pub fn residues(set: &Ival, m: u128) -> Ival
     requires modulus { (0 < m) × (m ≤ 2 ^ 64) }
     ensures { result.shape ≡ residues m set.now.shape }
 {

@@ -1,0 +1,91 @@
+//! Parts of numbers, and numbers made of two parts.
+
+ghost use Rattle.std.specs.Prelude.{◌≡◌, ◌<◌, ◌≤◌, ◌+◌, ◌-◌, ◌^◌, ◌%◌, ◌/◌, ◌==◌, ℤ, pos, ◌<ℤ◌, ◌≤ℤ◌, cond, map};
+ghost use Rattle.c_prog.specs.Operators as operators;
+ghost use Rattle.ival_core.specs.Sets.{IsNumber, AllNumbers, IsLongRun};
+ghost use Rattle.ival_core.specs.Ivals.{Holds, IsOnly};
+ghost use Rattle.ival_arith.specs.Pieces.{gathered};
+ghost use Rattle.ival_bits.specs.Parts.{run_floored, floored, part, extracted, glued, concatenated};
+
+use ival_arith::sums::sums;
+use ival_arith::{Change, changed, power, residues, with};
+use ival_core::{Ival, Progression, Shape, run_from};
+
+const LIMIT: i128 = 0x100_0000_0000_0000_0000_0000_0000_0000;
+
+/// The greatest number that is not above `n / d`.
+fn floor(n: i128, d: u128) -> i128
+    requires number { IsNumber n }
+    requires divisor { (0 < d) × (d ≤ 2 ^ 64) }
+    ensures value { result ≡ operators.floor n d }
+    ensures number { IsNumber result }
+{
+    n.div_euclid(d as i128)
+}
+
+fn few_floored(few: &[i128], d: u128) -> Ival
+    requires numbers { AllNumbers few.now }
+    requires divisor { (0 < d) × (d ≤ 2 ^ 64) }
+    ensures { result.shape ≡ gathered (map (λ n. operators.floor n d) few.now) }
+{
+    let mut all = Ival::empty();
+    for n in few {
+        all = with(&all, floor(*n, d));
+    }
+    all
+}
+
+/// How far apart the quotients of the numbers of a run are, where they are so evenly, or else 1.
+fn step(stride: u128, d: u128) -> u128
+    requires moves { 0 < stride }
+    requires divisor { 0 < d }
+    ensures value { result ≡ cond (stride % d == 0) (stride / d) 1 }
+    ensures moves { 0 < result }
+{
+    if stride % d == 0 { stride / d } else { 1 }
+}
+
+fn run_floored(run: Progression, d: u128) -> Ival
+    requires run { IsLongRun run }
+    requires divisor { (0 < d) × (d ≤ 2 ^ 64) }
+    ensures { result.shape ≡ run_floored d run }
+{
+    run_from(floor(run.low, d), floor(run.high, d), step(run.stride, d))
+}
+
+/// The numbers of a set, each divided by `d`, rounded down.
+pub(crate) fn floored(set: &Ival, d: u128) -> Ival
+    requires { (0 < d) × (d ≤ 2 ^ 64) }
+    ensures { result.shape ≡ floored d set.now.shape }
+{
+    match set.shape() {
+        Shape::Few(few) => few_floored(few.as_slice(), d),
+        Shape::Many(run) => run_floored(*run, d),
+    }
+}
+
+/// `bits` bits of each number, from bit `low` on.
+pub fn extract(a: &Ival, low: u32, bits: u32) -> Ival
+    requires { low + bits ≤ 64 }
+    ensures value { result.shape ≡ extracted low bits a.now.shape }
+    ensures holds { (n : ℤ) → Holds a.now n → Holds result (part low bits n) }
+    ensures single { (n : ℤ) → IsOnly a.now n → IsOnly result (part low bits n) }
+{
+    residues(&floored(a, power(low)), power(bits))
+}
+
+/// The numbers whose lowest `low_bits` bits are those of a number of `low`, and whose other bits are a number of `high`.
+pub fn concat(low: &Ival, low_bits: u32, high: &Ival) -> Ival
+    requires low { low_bits ≤ 64 }
+    requires high { (h : ℤ) → Holds high.now h → (pos 0 ≤ℤ h) × (h <ℤ pos (2 ^ (64 - low_bits))) }
+    ensures value { result.shape ≡ concatenated low_bits low.now.shape high.now.shape }
+    ensures holds { (l h : ℤ) → Holds low.now l → Holds high.now h → Holds result (glued low_bits l h) }
+    ensures single { (l h : ℤ) → IsOnly low.now l → IsOnly high.now h → IsOnly result (glued low_bits l h) }
+{
+    let rest = residues(low, power(low_bits));
+    if low_bits == 64 {
+        return rest;
+    }
+    let top = changed(high, Change::Times(power(low_bits) as u64));
+    sums(&top, &rest, -LIMIT, LIMIT)
+}
