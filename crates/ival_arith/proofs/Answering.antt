@@ -20,7 +20,8 @@ use Rattle.ival_arith.specs.Promises.{Gives, IsArithmetic, IsSharp, AllInRange}
 use Rattle.ival_arith.specs.Answers.{typed, binary_value, binary_kinds}
 use Rattle.ival_arith.proofs.Parts.{clipped-exactly}
 use Rattle.ival_arith.proofs.Making.{Made, IsWidth}
-use Rattle.ival_arith.proofs.Tabling.{Word, Asked, AllFit, value-covers, value-fits, value-least_add, value-least_sub}
+use Rattle.ival_arith.proofs.Spreading.{Word}
+use Rattle.ival_arith.proofs.Tabling.{Asked, AllFit, value-covers, value-fits, value-least_add, value-least_sub}
 use Rattle.ival_arith.proofs.Failing.{kinds-are}
 use Rattle.ival_arith.proofs.Words.{ends}
 
@@ -100,7 +101,7 @@ binary-holds op k m a b v i e n g =
     subst (λ u. Has u n) (sym e) ((value-covers op (is_signed k) (width_of k m) s t (asked op k m a b i)).holds n (gives_made op k m a b n g))
 
 pub binary-exact : (op : BinOp) (k : IntKind) (m : Machine) (a b v : Ival) → IsArithmetic op → v.shape ≡ binary_value op k m a.shape b.shape →
-    IsSharp op (typed (is_signed k) (width_of k m) a.shape) (typed (is_signed k) (width_of k m) b.shape) → (HoldsNine (λ n. Gives op k m a b (Ok n)) → ⊥) → (n : ℤ) → Holds v n → Gives op k m a b (Ok n)
+    IsSharp op (is_signed k) (width_of k m) (typed (is_signed k) (width_of k m) a.shape) (typed (is_signed k) (width_of k m) b.shape) → (HoldsNine (λ n. Gives op k m a b (Ok n)) → ⊥) → (n : ℤ) → Holds v n → Gives op k m a b (Ok n)
 binary-exact op k m a b v i e h few n g =
     let s = typed (is_signed k) (width_of k m) a.shape in
     let t = typed (is_signed k) (width_of k m) b.shape in

@@ -8,7 +8,7 @@ use Rattle.c_prog.specs.Integers.{FitsBits}
 use Rattle.ival_core.specs.declared.value.Shape.{Shape}
 use Rattle.ival_core.specs.Sets.{Has}
 use Rattle.ival_arith.specs.Kinds.{holds_number, IsShort}
-use Rattle.ival_arith.proofs.Failing.{number_held, held_number}
+use Rattle.ival_arith.proofs.Bounding.{number_held, held_number}
 use Rattle.ival_arith.proofs.Words.{ends}
 
 -- a truth that says whether n is in the set

@@ -14,6 +14,7 @@ pub mod Reducing
 pub mod Making
 pub mod Wrapping
 pub mod Multiplying
+pub mod Spreading
 pub mod Tabling
 pub mod Failing
 pub mod ProductCodes
@@ -24,3 +25,15 @@ pub mod Negating
 pub mod TermSets
 pub mod TermCodes
 pub mod Residuals
+pub mod Flooring
+pub mod FloorCodes
+pub mod FloorSets
+pub mod DivisionCodes
+pub mod Dividing
+pub mod Bounding
+pub mod Trying
+pub mod TrialCodes
+pub mod Crossing
+pub mod CrossCodes
+pub mod Periods
+pub mod Factors

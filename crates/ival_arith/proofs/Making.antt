@@ -53,7 +53,7 @@ one_kept (Ok m) ns n (inr k) = inr k
 one_kept (Err kind) ns n (inl e) = cc
 one_kept (Err kind) ns n (inr k) = k
 
-row-among : (op : BinOp) (signed : Bool) (width : ℕ) (x : ℤ) (ys : List ℤ) (n : ℤ) → Among (row op signed width x ys) n → (y : ℤ) × Among ys y × (operated op signed width x y ≡ Ok n)
+pub row-among : (op : BinOp) (signed : Bool) (width : ℕ) (x : ℤ) (ys : List ℤ) (n : ℤ) → Among (row op signed width x ys) n → (y : ℤ) × Among ys y × (operated op signed width x y ≡ Ok n)
 unfolding row
 row-among op signed width x [] n m = absurd m
 row-among op signed width x (y ∷ ys) n m = elim (kept_one (operated op signed width x y) (row op signed width x ys) n m) [
@@ -61,7 +61,7 @@ row-among op signed width x (y ∷ ys) n m = elim (kept_one (operated op signed 
   | inr k ↦ let r = row-among op signed width x ys n k in (r.0, inr r.1, r.2)
 ]
 
-among-row : (op : BinOp) (signed : Bool) (width : ℕ) (x : ℤ) (ys : List ℤ) (y n : ℤ) → Among ys y → operated op signed width x y ≡ Ok n → Among (row op signed width x ys) n
+pub among-row : (op : BinOp) (signed : Bool) (width : ℕ) (x : ℤ) (ys : List ℤ) (y n : ℤ) → Among ys y → operated op signed width x y ≡ Ok n → Among (row op signed width x ys) n
 unfolding row
 among-row op signed width x [] y n m e = absurd m
 among-row op signed width x (z ∷ ys) y n (inl i) e = one_kept (operated op signed width x z) (row op signed width x ys) n (inl (subst (λ k. operated op signed width x k ≡ Ok n) i e))
@@ -82,7 +82,7 @@ among-rows op signed width (z ∷ xs) ys x y n (inl i) b e =
     Among-left (row op signed width z ys) (rows op signed width xs ys) n (among-row op signed width z ys y n b (subst (λ k. operated op signed width k y ≡ Ok n) i e))
 among-rows op signed width (z ∷ xs) ys x y n (inr k) b e = Among-right (row op signed width z ys) (rows op signed width xs ys) n (among-rows op signed width xs ys x y n k b e)
 
-ok_number : (op : BinOp) (signed : Bool) (width : ℕ) (x y n : ℤ) → IsWidth width → FitsBits signed width x → operated op signed width x y ≡ Ok n → IsNumber n
+pub ok_number : (op : BinOp) (signed : Bool) (width : ℕ) (x y n : ℤ) → IsWidth width → FitsBits signed width x → operated op signed width x y ≡ Ok n → IsNumber n
 ok_number op signed width x y n w f e = operated_number op signed width x y (Ok n) w.some w.room f (sym e)
 
 pub rows-makes : (op : BinOp) (signed : Bool) (width : ℕ) (xs ys : List ℤ) → IsWidth width → Typed signed width (Among xs) → Makes (Made op signed width (Among xs) (Among ys)) (gathered (rows op signed width xs ys))

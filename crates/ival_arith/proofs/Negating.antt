@@ -28,9 +28,10 @@ use Rattle.ival_arith.proofs.Making.{IsWidth, signed_result, result_signed, unsi
 use Rattle.ival_arith.proofs.Reducing.{Natural, own_residue, residues-fits, residues-own}
 use Rattle.ival_arith.proofs.Wrapping.{InType}
 use Rattle.ival_arith.proofs.Words.{ends, powers, fits_operand, operand_number}
-use Rattle.ival_arith.proofs.Tabling.{Word, unok}
+use Rattle.ival_arith.proofs.Spreading.{Word, unok}
 use Rattle.ival_arith.proofs.Exacting.{number_negated}
-use Rattle.ival_arith.proofs.Failing.{Out, arithmetic_fails, never_fails, kind_set-allows, number_held, held_number}
+use Rattle.ival_arith.proofs.Bounding.{number_held, held_number}
+use Rattle.ival_arith.proofs.Failing.{Out, arithmetic_fails, never_fails, kind_set-allows}
 use Rattle.ival_arith.proofs.Answering.{width_is, typed-ranged, Ranged}
 
 -- the numbers of a set, negated

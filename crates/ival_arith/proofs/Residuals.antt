@@ -1,5 +1,5 @@
 -- Residues lie below the modulus, also in the sets that hold more than them.
-use Rattle.std.proofs.Common.{◌≡◌, ◌⊎◌, ℕ, zero, suc, ◌+◌, ◌-◌, ◌*◌, ◌/◌, ◌%◌, ◌<◌, ◌≤◌, ◌^◌, Bool, true, false, cond, ℤ, pos, negsuc, ◌+ℤ◌, List, [], ◌∷◌, map, refl, sym, subst, ap, ◌∙◌, inl, inr, arith}
+use Rattle.std.proofs.Common.{◌≡◌, ℕ, zero, suc, ◌+◌, ◌-◌, ◌*◌, ◌/◌, ◌%◌, ◌<◌, ◌≤◌, ◌^◌, Bool, true, false, cond, ℤ, pos, map, refl, sym, subst, inl, inr, arith}
 use Rattle.std.specs.Prelude.{nat_lt}
 use Rattle.std.proofs.lemmas.Int.{ints}
 use Rattle.std.proofs.lemmas.Bool.{ltb-true}
@@ -8,18 +8,17 @@ use Rattle.std.proofs.Math.Nat.{one-dvd}
 use lib.Signed.{◌<ℤ◌, ◌≤ℤ◌}
 use Rattle.c_prog.specs.Integers.{residue}
 use Rattle.c_prog.proofs.Residues.{residue_below}
-use Rattle.ival_core.specs.declared.value.Progression.{Progression}
 use Rattle.ival_core.specs.declared.value.Shape.{Shape}
 use Rattle.ival_core.specs.declared.value.Shape.TheVariants.{Few, Many}
-use Rattle.ival_core.specs.Sets.{apart, Among, IsNumber, IsLongRun, IsValid, Has, Steps}
+use Rattle.ival_core.specs.Sets.{apart, Among, Has}
 use Rattle.ival_core.specs.Ranges.{ranged}
 use Rattle.ival_core.specs.Joined.{gcd}
 use Rattle.ival_core.specs.Sets.{AllNumbers}
 use Rattle.ival_core.proofs.Insertion.{AllNumbers-from_among}
 use Rattle.ival_core.proofs.Joined.{Makes}
-use Rattle.ival_arith.specs.Pieces.{gathered, run, residues_from, is_among, cycle, run_residues}
+use Rattle.ival_arith.specs.Pieces.{gathered, run, residues_from, is_among, cycle}
 use Rattle.ival_arith.specs.Values.{residues}
-use Rattle.ival_arith.proofs.Fits.{gathered-makes, gathered-exactly}
+use Rattle.ival_arith.proofs.Fits.{gathered-makes}
 use Rattle.ival_arith.proofs.Parts.{Image, mapped-makes, run-exactly, ranged-exactly}
 use Rattle.ival_arith.proofs.Cycles.{range_may, cycle_moves}
 use Rattle.ival_arith.proofs.Reducing.{residue_number}

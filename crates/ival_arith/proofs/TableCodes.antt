@@ -1,6 +1,6 @@
 -- How a table is computed.
-use Rattle.std.proofs.Common.{◌≡◌, ℕ, ◌-◌, ◌*◌, ◌≤◌, ◌^◌, ◌<◌, Option, Some, None, Bool, true, false, ℤ, pos, ◌+ℤ◌, List, ◌⊎◌, inl, inr, min, refl, sym, subst, ap, ◌∙◌, arith}
-use Rattle.std.specs.Prelude.{neg_ℤ, ◌&&◌, unsigned_abs}
+use Rattle.std.proofs.Common.{◌≡◌, ℕ, ◌-◌, ◌≤◌, ◌^◌, ◌<◌, Option, Some, None, Bool, true, false, ℤ, pos, ◌+ℤ◌, List, ◌⊎◌, inl, inr, refl, sym, subst, ap, ◌∙◌, arith}
+use Rattle.std.specs.Prelude.{neg_ℤ, unsigned_abs}
 use Rattle.std.proofs.lemmas.Int.{ints}
 use Rattle.arrayvec.specs.ArrayVec.{ArrayVec}
 use Rattle.c_prog.specs.declared.tree.BinOp.{BinOp}
@@ -19,9 +19,10 @@ use Rattle.ival_core.specs.Views.{bounds_of}
 use Rattle.ival_arith.specs.Pieces.{none, gathered, all_changed}
 use Rattle.ival_arith.specs.declared.pieces.Change.TheVariants.{Negative}
 use Rattle.ival_arith.specs.Sums.{sums}
-use Rattle.ival_arith.specs.Values.{rows, residues, added, lines_onto, extent, is_natural, spread, multiplied, long_value, value}
+use Rattle.ival_arith.specs.declared.divisions.Part.TheVariants.{Quotient, Remainder}
+use Rattle.ival_arith.specs.Values.{rows, residues, added, lines_onto, extent, runs_multiplied, multiplied, divided, long_value, value}
 use Rattle.ival_arith.specs.Promises.{InType}
-use Rattle.ival_arith.proofs.Failing.{BoundsAre, bounds_are}
+use Rattle.ival_arith.proofs.Bounding.{BoundsAre, bounds_are}
 use Rattle.ival_arith.proofs.Words.{ends, fits_operand}
 
 pub added_signed : (signed : Bool) (width : ℕ) (s t r : Shape) → signed ≡ true → r ≡ sums (least_of signed width) (greatest_of signed width) s t → r ≡ added signed width s t
@@ -62,17 +63,9 @@ pub multiplied_run_few : (signed : Bool) (width : ℕ) (s t at r : Shape) (p : P
 unfolding multiplied
 multiplied_run_few signed width s t at r p u ys e f g i h = h ∙ ap (lines_onto signed width none p) i ∙ ap (λ x. multiplied signed width x (Few u)) (sym e) ∙ ap (multiplied signed width s) (sym g ∙ f)
 
-pub multiplied_runs : (signed : Bool) (width : ℕ) (s t at r : Shape) (p q : Progression) → s ≡ Many p → at ≡ t → at ≡ Many q →
-    r ≡ spread signed width (is_natural (bounds_of s) && is_natural (bounds_of t)) (min (extent (bounds_of s) * extent (bounds_of t)) (2 ^ 65)) → r ≡ multiplied signed width s t
+pub multiplied_runs : (signed : Bool) (width : ℕ) (s t at r : Shape) (p q : Progression) → s ≡ Many p → at ≡ t → at ≡ Many q → r ≡ runs_multiplied signed width p q → r ≡ multiplied signed width s t
 unfolding multiplied
-multiplied_runs signed width s t at r p q e f g h =
-    h ∙ ap (λ x. hull x t) e ∙ ap (hull (Many p)) (sym f ∙ g) ∙ both_runs signed width p q ∙ ap (λ x. multiplied signed width x (Many q)) (sym e) ∙ ap (multiplied signed width s) (sym g ∙ f)
-  where
-    hull : Shape → Shape → Shape
-    hull x y = spread signed width (is_natural (bounds_of x) && is_natural (bounds_of y)) (min (extent (bounds_of x) * extent (bounds_of y)) (2 ^ 65))
-
-    both_runs : (signed : Bool) (width : ℕ) (p q : Progression) → spread signed width (is_natural (bounds_of (Many p)) && is_natural (bounds_of (Many q))) (min (extent (bounds_of (Many p)) * extent (bounds_of (Many q))) (2 ^ 65)) ≡ multiplied signed width (Many p) (Many q)
-    both_runs signed width p q = refl
+multiplied_runs signed width s t at r p q e f g h = h ∙ ap (λ x. multiplied signed width x (Many q)) (sym e) ∙ ap (multiplied signed width s) (sym g ∙ f)
 
 -- ---- the whole table
 
@@ -88,11 +81,11 @@ pub long_mul : (signed : Bool) (width : ℕ) (s t : Shape) → multiplied signed
 unfolding long_value
 long_mul signed width s t = refl
 
-pub long_div : (signed : Bool) (width : ℕ) (s t : Shape) → spread signed width (is_natural (bounds_of s) && is_natural (bounds_of t)) (extent (bounds_of s)) ≡ long_value Div signed width s t
+pub long_div : (signed : Bool) (width : ℕ) (s t : Shape) → divided Quotient signed width s t ≡ long_value Div signed width s t
 unfolding long_value
 long_div signed width s t = refl
 
-pub long_rem : (signed : Bool) (width : ℕ) (s t : Shape) → spread signed width (is_natural (bounds_of s)) (min (extent (bounds_of s)) (extent (bounds_of t) - 1)) ≡ long_value Rem signed width s t
+pub long_rem : (signed : Bool) (width : ℕ) (s t : Shape) → divided Remainder signed width s t ≡ long_value Rem signed width s t
 unfolding long_value
 long_rem signed width s t = refl
 

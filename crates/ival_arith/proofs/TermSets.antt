@@ -1,17 +1,17 @@
 -- What products, quotients and remainders without wrap hold.
-use Rattle.std.proofs.Common.{◌≡◌, ◌⊎◌, ◌↔◌, ℕ, zero, suc, ◌-◌, ◌*◌, ◌<◌, ◌≤◌, ◌^◌, Bool, true, false, cond, ℤ, pos, negsuc, ◌+ℤ◌, List, [], ◌∷◌, Option, Some, None, min, refl, sym, subst, ap, ◌∙◌, inl, inr, arith}
+use Rattle.std.proofs.Common.{◌≡◌, ◌⊎◌, ℕ, zero, suc, ◌-◌, ◌*◌, ◌<◌, ◌≤◌, ◌^◌, Bool, true, false, cond, ℤ, pos, negsuc, List, [], ◌∷◌, Option, Some, None, min, refl, sym, subst, ap, ◌∙◌, inl, inr, arith}
 use Rattle.std.specs.Prelude.{neg_ℤ, ◌*ℤ◌, ◌&&◌, int_div, int_lt, nat_lt, unsigned_abs}
 use Rattle.std.proofs.lemmas.Int.{ints, unsigned_abs-mul, rem_below}
 use Rattle.std.proofs.lemmas.Nat.{mul-le}
 use Rattle.std.proofs.Math.Nat.{one-dvd}
 use lib.IntN.{*ℤ_comm, *ℤ-zero}
-use lib.Signed.{◌<ℤ◌, ◌≤ℤ◌}
+use lib.Signed.{◌≤ℤ◌}
 use Rattle.c_prog.specs.Operators.{is_zero}
 use Rattle.ival_core.specs.declared.value.Progression.{Progression}
 use Rattle.ival_core.specs.declared.value.Ival.{Ival}
 use Rattle.ival_core.specs.declared.value.Shape.{Shape}
 use Rattle.ival_core.specs.declared.value.Shape.TheVariants.{Few, Many}
-use Rattle.ival_core.specs.Sets.{apart, Among, IsAscending, IsNumber, IsValid, Has, Steps}
+use Rattle.ival_core.specs.Sets.{apart, Among, IsNumber, IsValid, Has, Steps}
 use Rattle.ival_core.specs.Ivals.{Holds, IsOnly}
 use Rattle.ival_core.specs.Joined.{joined}
 use Rattle.ival_core.specs.Views.{bounds_of}
@@ -29,11 +29,12 @@ use Rattle.ival_arith.specs.Terms.{term, IsDefined, terms, crossed, around, scal
 use Rattle.ival_arith.proofs.Singling.{single_shape}
 use Rattle.ival_arith.proofs.Fits.{Makes-same, Exactly, gathered-makes, gathered-exactly, none-exactly}
 use Rattle.ival_arith.proofs.Parts.{Image, all_changed-exactly, run-exactly}
-use Rattle.ival_arith.proofs.Adding.{at_first}
 use Rattle.ival_arith.proofs.Multiplying.{zero_is, not_zero, turn_product, keep_product}
-use Rattle.ival_arith.proofs.Tabling.{Covers, Bounded, bounded, quotient_near, quotient_natural, natural_product, both_true, rest_is}
+use Rattle.ival_arith.proofs.Spreading.{Covers, Bounded, bounded, quotient_near, quotient_natural, natural_product, both_true, rest_is}
 use Rattle.ival_arith.proofs.Exacting.{number_negated}
-use Rattle.ival_arith.proofs.Failing.{Out, SomeOut, not_out, out_false, products_out, out_true, BoundsAre, bounds_are, number_held, held_number}
+use Rattle.ival_arith.proofs.Bounding.{BoundsAre, bounds_are}
+use Rattle.ival_arith.proofs.Bounding.{number_held, held_number}
+use Rattle.ival_arith.proofs.Failing.{Out, SomeOut, not_out, out_false, products_out, out_true}
 use Rattle.ival_arith.proofs.Making.{FitsEnds}
 
 -- n is the term of a number with P and one with Q

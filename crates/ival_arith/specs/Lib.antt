@@ -6,3 +6,4 @@ pub mod Values
 pub mod Kinds
 pub mod Answers
 pub mod Terms
+pub mod Floors

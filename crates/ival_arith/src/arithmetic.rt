@@ -5,13 +5,16 @@ ghost use Rattle.c_prog.specs.Integers.{FitsBits, least_of, greatest_of};
 ghost use Rattle.ival_core.specs.Sets.{IsNumber, IsLongRun, Has};
 ghost use Rattle.ival_core.specs.Ivals.{Holds};
 ghost use Rattle.ival_core.specs.Views.{bounds_of};
-ghost use Rattle.ival_arith.specs.Values.{extent, is_natural, spread, added, multiplied, long_value, value};
+ghost use Rattle.ival_arith.specs.Values.{extent, is_natural, spread, added, product_hull, runs_multiplied, multiplied, part_lines, part_spread, divided, long_value, value};
 ghost use Rattle.ival_arith.specs.Kinds.{holds_number, sums_leave, products_leave, overflows, divides_by_zero, kind_set, kinds};
 ghost use Rattle.ival_arith.specs.Promises.{InType};
 
+use crate::divisions::{Part, part_lines};
+use crate::divisors::numbers_divided;
 use crate::format::{Format, format_of, power};
 use crate::pieces::{Change, changed, clipped};
 use crate::products::{extent, is_natural, lines, spread};
+use crate::runs::{all_repeat, first_products, least_factor, near_products};
 use crate::sums::sums;
 use crate::values::{few_results, residues};
 use c_prog::kind::{Kind, KindSet};
@@ -52,14 +55,55 @@ fn product_extent(a: &Ival, b: &Ival) -> u128
 fn product_hull(format: Format, a: &Ival, b: &Ival) -> Ival
     requires left { InType format.signed format.width a.now }
     requires right { InType format.signed format.width b.now }
-    ensures { result.shape
-        ≡ spread format.signed format.width (is_natural (bounds_of a.now.shape) && is_natural (bounds_of b.now.shape)) (min (extent (bounds_of a.now.shape) * extent (bounds_of b.now.shape)) (2 ^ 65)) }
+    ensures { result.shape ≡ product_hull format.signed format.width a.now.shape b.now.shape }
 {
     spread(
         format,
         both(is_natural(a), is_natural(b)),
         product_extent(a, b),
     )
+}
+
+/// Products of two runs in an unsigned type.
+#[tactic(auto, unfolding(crate::specs::Values::runs_multiplied))]
+fn wrapped_products(
+    format: Format,
+    a: &Ival,
+    run: Progression,
+    b: &Ival,
+    other: Progression,
+) -> Ival
+    requires unsigned { format.signed ≡ false }
+    requires run { a.now.shape ≡ Shape.Many run }
+    requires other { b.now.shape ≡ Shape.Many other }
+    requires left { InType format.signed format.width a.now }
+    requires right { InType format.signed format.width b.now }
+    ensures { result.shape ≡ runs_multiplied format.signed format.width run other }
+{
+    if all_repeat(format.width, run, other) {
+        first_products(format, run, other)
+    } else {
+        product_hull(format, a, b)
+    }
+}
+
+/// Products of two runs in a type.
+#[tactic(auto, unfolding(crate::specs::Values::runs_multiplied))]
+fn runs_multiplied(format: Format, a: &Ival, run: Progression, b: &Ival, other: Progression) -> Ival
+    requires run { a.now.shape ≡ Shape.Many run }
+    requires other { b.now.shape ≡ Shape.Many other }
+    requires left { InType format.signed format.width a.now }
+    requires right { InType format.signed format.width b.now }
+    ensures { result.shape ≡ runs_multiplied format.signed format.width run other }
+{
+    if format.signed {
+        match near_products(format, a, b, other) {
+            Some(all) => all,
+            None => product_hull(format, a, b),
+        }
+    } else {
+        wrapped_products(format, a, run, b, other)
+    }
 }
 
 /// Products of a run and a set, in a type.
@@ -71,7 +115,7 @@ fn run_multiplied(format: Format, a: &Ival, run: Progression, b: &Ival) -> Ival
 {
     match b.shape() {
         Shape::Few(few) => lines(format, run, few.as_slice()),
-        Shape::Many(_) => product_hull(format, a, b),
+        Shape::Many(other) => runs_multiplied(format, a, run, b, *other),
     }
 }
 
@@ -100,23 +144,52 @@ fn multiplied(format: Format, a: &Ival, b: &Ival) -> Ival
     }
 }
 
-/// Quotients of long sets, in a type.
-fn divided(format: Format, a: &Ival, b: &Ival) -> Ival
+/// Where quotients and remainders lie, in a type.
+#[tactic(auto, unfolding(crate::specs::Values::part_spread))]
+fn part_spread(part: Part, format: Format, a: &Ival, b: &Ival) -> Ival
     requires left { InType format.signed format.width a.now }
-    ensures { result.shape
-        ≡ spread format.signed format.width (is_natural (bounds_of a.now.shape) && is_natural (bounds_of b.now.shape)) (extent (bounds_of a.now.shape)) }
+    ensures { result.shape ≡ part_spread part format.signed format.width a.now.shape b.now.shape }
 {
-    spread(format, both(is_natural(a), is_natural(b)), extent(a))
+    match part {
+        Part::Quotient => {
+            let far = extent(a) / least_factor(b);
+            spread(format, both(is_natural(a), is_natural(b)), far)
+        }
+        Part::Remainder => {
+            let below = extent(b).saturating_sub(1);
+            spread(format, is_natural(a), extent(a).min(below))
+        }
+    }
 }
 
-/// Remainders of long sets, in a type.
-fn remainders(format: Format, a: &Ival, b: &Ival) -> Ival
+/// Quotients or remainders by the numbers of a run, in a type.
+#[tactic(auto, unfolding(crate::specs::Values::divided))]
+fn run_divided(part: Part, format: Format, a: &Ival, b: &Ival, run: Progression) -> Ival
+    requires run { b.now.shape ≡ Shape.Many run }
     requires left { InType format.signed format.width a.now }
-    ensures { result.shape
-        ≡ spread format.signed format.width (is_natural (bounds_of a.now.shape)) (min (extent (bounds_of a.now.shape)) (extent (bounds_of b.now.shape) - 1)) }
+    requires right { InType format.signed format.width b.now }
+    ensures { result.shape ≡ divided part format.signed format.width a.now.shape b.now.shape }
 {
-    let below = extent(b).saturating_sub(1);
-    spread(format, is_natural(a), extent(a).min(below))
+    match a.shape() {
+        Shape::Few(few) => match numbers_divided(part, format, few.as_slice(), b) {
+            Some(all) => all,
+            None => part_spread(part, format, a, b),
+        },
+        Shape::Many(_) => part_spread(part, format, a, b),
+    }
+}
+
+/// Quotients or remainders in a type, where one of the sets is long.
+#[tactic(auto, unfolding(crate::specs::Values::divided))]
+fn divided(part: Part, format: Format, a: &Ival, b: &Ival) -> Ival
+    requires left { InType format.signed format.width a.now }
+    requires right { InType format.signed format.width b.now }
+    ensures { result.shape ≡ divided part format.signed format.width a.now.shape b.now.shape }
+{
+    match b.shape() {
+        Shape::Few(few) => part_lines(part, format, a, few.as_slice()),
+        Shape::Many(run) => run_divided(part, format, a, b, *run),
+    }
 }
 
 /// Results in a type, where one of the sets is long.
@@ -129,8 +202,8 @@ fn long_value(op: BinOp, format: Format, a: &Ival, b: &Ival) -> Ival
         BinOp::Add => added(format, a, b),
         BinOp::Sub => added(format, a, &changed(b, Change::Negative)),
         BinOp::Mul => multiplied(format, a, b),
-        BinOp::Div => divided(format, a, b),
-        BinOp::Rem => remainders(format, a, b),
+        BinOp::Div => divided(Part::Quotient, format, a, b),
+        BinOp::Rem => divided(Part::Remainder, format, a, b),
         BinOp::And | BinOp::Or | BinOp::Xor | BinOp::Shl | BinOp::Shr => Ival::empty(),
         BinOp::Lt | BinOp::Le | BinOp::Gt | BinOp::Ge | BinOp::Eq | BinOp::Ne => Ival::empty(),
     }

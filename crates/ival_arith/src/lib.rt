@@ -6,18 +6,23 @@
 
 mod answers;
 mod arithmetic;
+mod divisions;
+mod divisors;
 mod exact;
+mod floors;
 mod format;
 mod kinds;
 mod pieces;
 mod products;
 mod relations;
+mod runs;
 pub mod sums;
 mod terms;
 mod values;
 
 pub use answers::{Answer, binary, negate, typed};
 pub use exact::{exact_add, exact_sub};
+pub use floors::floored;
 pub use format::{Format, format_of, power};
 pub use kinds::holds_number;
 pub use pieces::{Change, changed, clipped, join, with};

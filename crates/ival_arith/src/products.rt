@@ -59,7 +59,7 @@ fn product_cycle(width: u32, run: Progression, y: i128) -> Ival
 }
 
 /// The products of the numbers of a run with `y`, in a type.
-fn line(format: Format, run: Progression, y: i128) -> Ival
+pub(crate) fn line(format: Format, run: Progression, y: i128) -> Ival
     requires run { IsLongRun run }
     requires low { FitsBits format.signed format.width run.low }
     requires high { FitsBits format.signed format.width run.high }
@@ -74,6 +74,21 @@ fn line(format: Format, run: Progression, y: i128) -> Ival
     }
 }
 
+/// With the products of the numbers of a run with each of `others`, in a type.
+pub(crate) fn lines_onto(set: &Ival, format: Format, run: Progression, others: &[i128]) -> Ival
+    requires run { IsLongRun run }
+    requires low { FitsBits format.signed format.width run.low }
+    requires high { FitsBits format.signed format.width run.high }
+    requires factors { (y : ℤ) → Among others.now y → FitsBits format.signed format.width y }
+    ensures { result.shape ≡ lines_onto format.signed format.width set.now.shape run others.now }
+{
+    let mut all = set.copy();
+    for other in others {
+        all = join(&all, &line(format, run, *other));
+    }
+    all
+}
+
 /// The products of the numbers of a run with each of `others`, in a type.
 pub(crate) fn lines(format: Format, run: Progression, others: &[i128]) -> Ival
     requires run { IsLongRun run }
@@ -82,11 +97,7 @@ pub(crate) fn lines(format: Format, run: Progression, others: &[i128]) -> Ival
     requires factors { (y : ℤ) → Among others.now y → FitsBits format.signed format.width y }
     ensures { result.shape ≡ lines_onto format.signed format.width none run others.now }
 {
-    let mut all = Ival::empty();
-    for other in others {
-        all = join(&all, &line(format, run, *other));
-    }
-    all
+    lines_onto(&Ival::empty(), format, run, others)
 }
 
 pub(crate) fn low_of(natural: bool, m: u128) -> i128

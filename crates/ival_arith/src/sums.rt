@@ -59,7 +59,7 @@ fn ends_high(p: Progression, q: Progression, lo: i128, hi: i128) -> bool
 }
 
 /// The 8 numbers from `first` on in steps of `stride`.
-fn eight(first: i128, stride: u128) -> Ival
+pub(crate) fn eight(first: i128, stride: u128) -> Ival
     requires first { IsNumber first }
     requires last { IsNumber (first +ℤ pos (7 * stride)) }
     requires moves { 0 < stride }

@@ -68,6 +68,53 @@ fn products_and_quotients(rt: HostRuntime) {
 }
 
 #[test]
+fn few_products_of_long_sets(rt: HostRuntime) -> Result<(), Fail> {
+    let roots = Ival::range(46340, 50000, 0, 1);
+    let squares = answer(BinOp::Mul, &roots, &roots);
+    let numbers = squares.value.numbers().ok_or("two products")?;
+    assert_eq!(rt; numbers, [2147395600, 2147441940].as_slice());
+    assert!(rt; squares.kinds.allows(Kind::SignedOverflow));
+    let high = Ival::range(0, 0xf000_0000, 0, 0x1000_0000);
+    let even = Ival::range(0, 0xffff_fffe, 0, 2);
+    let wrapped = binary(BinOp::Mul, IntKind::UInt, Machine::Lp64, &high, &even);
+    let eighths = wrapped.value.numbers().ok_or("eight products")?;
+    assert_eq!(rt; eighths.len(), 8);
+    assert!(rt; wrapped.value.contains(0xe000_0000));
+    Ok(())
+}
+
+#[test]
+fn divisions_of_long_sets(rt: HostRuntime) -> Result<(), Fail> {
+    let bytes = Ival::range(0, 255, 0, 1);
+    let hundreds = answer(BinOp::Div, &bytes, &Ival::single(100));
+    let numbers = hundreds.value.numbers().ok_or("three quotients")?;
+    assert_eq!(rt; numbers, [0, 1, 2].as_slice());
+    let around = Ival::range(-100, 100, 0, 1);
+    let thirds = answer(BinOp::Div, &around, &Ival::single(-3));
+    assert_eq!(rt; thirds.value.bounds(), Some((-33, 33)));
+    let rests = answer(BinOp::Rem, &around, &Ival::single(3));
+    let signs = rests.value.numbers().ok_or("five remainders")?;
+    assert_eq!(rt; signs, [-2, -1, 0, 1, 2].as_slice());
+    let far = Ival::range(10, 99, 0, 1);
+    let near = answer(BinOp::Div, &Ival::range(0, 1000, 0, 1), &far);
+    assert_eq!(rt; near.value.bounds(), Some((0, 100)));
+    Ok(())
+}
+
+#[test]
+fn divisions_of_one_number(rt: HostRuntime) -> Result<(), Fail> {
+    let divisors = Ival::range(-4, 20, 0, 1);
+    let quotients = answer(BinOp::Div, &Ival::single(5), &divisors);
+    let numbers = quotients.value.numbers().ok_or("quotients of 5")?;
+    assert_eq!(rt; numbers, [-5, -2, -1, 0, 1, 2, 5].as_slice());
+    let rests = answer(BinOp::Rem, &Ival::single(-5), &divisors);
+    let left = rests.value.numbers().ok_or("remainders of -5")?;
+    assert_eq!(rt; left, [-5, -2, -1, 0].as_slice());
+    assert!(rt; rests.kinds.allows(Kind::DivisionByZero));
+    Ok(())
+}
+
+#[test]
 fn relations(rt: HostRuntime) {
     let fours = Ival::range(0, 80, 0, 4);
     let odd = Ival::range(1, 81, 1, 4);

@@ -20,7 +20,7 @@ use ival_core::{Ival, Progression, Shape};
 const LIMIT: i128 = 0x100_0000_0000_0000_0000_0000_0000_0000;
 
 /// With the result, if there is one.
-fn with_result(all: Ival, outcome: Result<i128, Kind>) -> Ival
+pub(crate) fn with_result(all: Ival, outcome: Result<i128, Kind>) -> Ival
     requires { IfOk outcome IsNumber }
     ensures { result.shape ≡ with_numbers all.shape (kept outcome []) }
 {
@@ -31,7 +31,7 @@ fn with_result(all: Ival, outcome: Result<i128, Kind>) -> Ival
 }
 
 /// With the results of `x` with each of `others`.
-fn with_row(set: &Ival, op: BinOp, format: Format, x: i128, others: &[i128]) -> Ival
+pub(crate) fn with_row(set: &Ival, op: BinOp, format: Format, x: i128, others: &[i128]) -> Ival
     requires left { FitsKind format.kind format.machine x }
     requires right { (y : ℤ) → Among others.now y → FitsKind format.kind format.machine y }
     ensures { result.shape ≡ with_numbers set.now.shape (row op format.signed format.width x others.now) }

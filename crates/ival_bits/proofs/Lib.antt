@@ -1,6 +1,14 @@
-pub mod Floors
 pub mod PartSets
 pub mod PartCodes
 pub mod Wrapped
 pub mod WrapSets
 pub mod WrapCodes
+pub mod Sizes
+pub mod BitBounds
+pub mod Shifting
+pub mod Operating
+pub mod ShiftKinds
+pub mod BitSets
+pub mod SpanSets
+pub mod MaskSets
+pub mod Apart

@@ -1,24 +1,22 @@
 -- What sets of parts hold.
-use Rattle.std.proofs.Common.{◌≡◌, ◌⊎◌, ◌↔◌, ℕ, zero, suc, ◌+◌, ◌-◌, ◌*◌, ◌/◌, ◌%◌, ◌<◌, ◌≤◌, ◌^◌, ◌==◌, Bool, true, false, cond, ℤ, pos, negsuc, ◌+ℤ◌, ◌-ℤ◌, List, [], ◌∷◌, map, refl, sym, subst, ap, ◌∙◌, inl, inr, arith}
+use Rattle.std.proofs.Common.{◌≡◌, ℕ, ◌+◌, ◌-◌, ◌*◌, ◌<◌, ◌≤◌, ◌^◌, cond, ℤ, pos, negsuc, ◌+ℤ◌, [], ◌∷◌, refl, sym, subst, ap, ◌∙◌, inl, inr, arith}
 use Rattle.std.specs.Prelude.{neg_ℤ, ◌*ℤ◌}
 use Rattle.std.proofs.lemmas.Int.{ints}
 use Rattle.std.proofs.lemmas.Nat.{pow_pos}
 use Rattle.std.proofs.lemmas.Nat.{pow-add, mul-le}
 use lib.Signed.{◌<ℤ◌, ◌≤ℤ◌}
-use Rattle.arrayvec.specs.ArrayVec.{ArrayVec}
 use Rattle.c_prog.specs.Integers.{residue}
 use Rattle.c_prog.specs.Operators.{floor}
 use Rattle.c_prog.proofs.Residues.{residue_below}
-use Rattle.ival_core.specs.declared.value.Progression.{Progression}
 use Rattle.ival_core.specs.declared.value.Ival.{Ival}
 use Rattle.ival_core.specs.declared.value.Shape.{Shape}
-use Rattle.ival_core.specs.declared.value.Shape.TheVariants.{Few, Many}
-use Rattle.ival_core.specs.Sets.{Among, IsNumber, IsLongRun, IsValid, Has, Steps}
+use Rattle.ival_core.specs.declared.value.Shape.TheVariants.{Few}
+use Rattle.ival_core.specs.Sets.{IsNumber, IsValid, Has}
 use Rattle.ival_core.specs.Ivals.{Holds, IsOnly}
 use Rattle.ival_core.proofs.Insertion.{Holds-number}
 use Rattle.ival_core.proofs.Joined.{Makes}
 use Rattle.ival_arith.specs.declared.pieces.Change.TheVariants.{Times}
-use Rattle.ival_arith.specs.Pieces.{gathered, run, all_changed}
+use Rattle.ival_arith.specs.Pieces.{gathered, all_changed}
 use Rattle.ival_arith.specs.Values.{residues}
 use Rattle.ival_arith.specs.Sums.{sums}
 use Rattle.ival_arith.proofs.Fits.{Fits, Makes-fits, Exactly, gathered-exactly}
@@ -27,12 +25,13 @@ use Rattle.ival_arith.proofs.Reducing.{residues-fits}
 use Rattle.ival_arith.proofs.Residuals.{Below, residues_below}
 use Rattle.std.proofs.Common.{eq-eqb}
 use Rattle.std.proofs.lemmas.Bool.{ne_eqb}
-use Rattle.ival_arith.proofs.Adding.{Sum, CanSums, sums-makes}
+use Rattle.ival_arith.proofs.Adding.{Sum, sums-makes}
 use Rattle.ival_arith.proofs.Singling.{single_shape, fits_single}
 use Rattle.ival_arith.proofs.TermSets.{only_shape}
 use Rattle.ival_arith.proofs.Words.{powers}
-use Rattle.ival_bits.specs.Parts.{part, glued, run_floored, floored, extracted, concatenated}
-use Rattle.ival_bits.proofs.Floors.{floored-covers, floor_number}
+use Rattle.ival_arith.specs.Floors.{floored}
+use Rattle.ival_bits.specs.Parts.{part, glued, extracted, concatenated}
+use Rattle.ival_arith.proofs.Flooring.{floored-covers, floor_number}
 
 -- ---- single numbers
 
@@ -146,7 +145,7 @@ limits n e = record { least = omega (arith, ints); greatest = omega (arith, ints
 limit : (n : ℤ) → n ≡ pos (2 ^ 120) → IsNumber n
 limit n e = record { least = omega (arith, ints); greatest = omega (arith, ints) }
 
-sums_of : (s t : Shape) → IsValid s → IsValid t → ((x y : ℤ) → Has s x → Has t y → IsNumber (x +ℤ y)) → Makes (Sum (Has s) (Has t)) (sums (neg_ℤ (pos (2 ^ 120))) (pos (2 ^ 120)) s t)
+pub sums_of : (s t : Shape) → IsValid s → IsValid t → ((x y : ℤ) → Has s x → Has t y → IsNumber (x +ℤ y)) → Makes (Sum (Has s) (Has t)) (sums (neg_ℤ (pos (2 ^ 120))) (pos (2 ^ 120)) s t)
 sums_of s t v w h =
     sums-makes (neg_ℤ (pos (2 ^ 120))) (pos (2 ^ 120)) s t
     (record { left = v; right = w; least = limits (neg_ℤ (pos (2 ^ 120))) refl; greatest = limit (pos (2 ^ 120)) refl; sums = h })

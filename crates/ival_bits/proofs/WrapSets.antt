@@ -1,21 +1,21 @@
 -- What sets of wrapped numbers hold.
-use Rattle.std.proofs.Common.{◌≡◌, ◌⊎◌, ◌↔◌, ℕ, zero, suc, ◌+◌, ◌-◌, ◌*◌, ◌/◌, ◌%◌, ◌<◌, ◌≤◌, ◌^◌, Bool, true, false, cond, ℤ, pos, negsuc, ◌+ℤ◌, ◌-ℤ◌, List, [], ◌∷◌, refl, sym, subst, ap, ◌∙◌, inl, inr, arith}
+use Rattle.std.proofs.Common.{◌≡◌, ◌⊎◌, ℕ, ◌-◌, ◌<◌, ◌≤◌, ◌^◌, Bool, true, false, cond, ℤ, pos, ◌+ℤ◌, refl, sym, subst, ap, ◌∙◌, inl, inr, arith}
 use Rattle.std.specs.Prelude.{neg_ℤ, nat_lt, int_le}
 use Rattle.std.proofs.lemmas.Int.{ints}
 use Rattle.std.proofs.lemmas.Nat.{pow_pos}
 use Rattle.std.proofs.lemmas.Bool.{ltb-true, ltb-false}
-use lib.Signed.{◌<ℤ◌, ◌≤ℤ◌}
-use Rattle.c_prog.specs.Integers.{FitsBits, residue, signed_number, least_of, greatest_of}
+use lib.Signed.{◌≤ℤ◌}
+use Rattle.c_prog.specs.Integers.{FitsBits, residue, signed_number, greatest_of}
 use Rattle.c_prog.specs.Operators.{reduced}
 use Rattle.c_prog.proofs.Residues.{residue_below}
 use Rattle.ival_core.specs.declared.value.Progression.{Progression}
 use Rattle.ival_core.specs.declared.value.Ival.{Ival}
 use Rattle.ival_core.specs.declared.value.Shape.{Shape}
 use Rattle.ival_core.specs.declared.value.Shape.TheVariants.{Few, Many}
-use Rattle.ival_core.specs.Sets.{apart, Among, IsNumber, IsLongRun, IsValid, Has, Steps}
+use Rattle.ival_core.specs.Sets.{apart, IsNumber, IsLongRun, IsValid, Has, Steps}
 use Rattle.ival_core.specs.Ivals.{Holds, IsOnly}
 use Rattle.ival_core.specs.Joined.{joined}
-use Rattle.ival_core.proofs.Runs.{Steps-low, Steps-high}
+use Rattle.ival_core.proofs.Runs.{Steps-low}
 use Rattle.ival_core.proofs.Distances.{apart_is, apart_onto}
 use Rattle.std.specs.Int.{◌∣◌}
 use Rattle.arrayvec.specs.ArrayVec.{ArrayVec}
@@ -24,11 +24,11 @@ use Rattle.ival_arith.specs.declared.pieces.Change.TheVariants.{Plus}
 use Rattle.ival_arith.specs.Pieces.{run, all_changed, clipped}
 use Rattle.ival_arith.specs.Values.{residues}
 use Rattle.ival_arith.proofs.Fits.{Fits, Fits-joined, Makes-fits, Exactly, Exactly-makes}
-use Rattle.ival_arith.proofs.Parts.{Image, Between, clipped-exactly, all_changed-exactly, run-exactly, at_place}
+use Rattle.ival_arith.proofs.Parts.{Image, Between, clipped-exactly, all_changed-exactly, run-exactly}
 use Rattle.ival_arith.proofs.Reducing.{residues-fits}
-use Rattle.ival_arith.proofs.Singling.{single_shape, fits_single}
+use Rattle.ival_arith.proofs.Singling.{fits_single}
 use Rattle.ival_arith.proofs.TermSets.{only_shape}
-use Rattle.ival_arith.proofs.Words.{ends, half, powers, fits_operand, operand_number}
+use Rattle.ival_arith.proofs.Words.{half, powers, fits_operand, operand_number}
 use Rattle.ival_bits.specs.Wraps.{resigned, run_wrapped, wrapped}
 use Rattle.ival_bits.proofs.PartSets.{list_of, residues_single, shape_only}
 use Rattle.ival_bits.proofs.Wrapped.{pattern_number, reduced_fits, reduced_further}

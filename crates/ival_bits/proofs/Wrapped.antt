@@ -1,24 +1,17 @@
 -- What numbers are in an integer type.
-use Rattle.std.proofs.Common.{◌≡◌, ◌⊎◌, ◌↔◌, ℕ, zero, suc, ◌+◌, ◌-◌, ◌*◌, ◌/◌, ◌%◌, ◌<◌, ◌≤◌, ◌^◌, Bool, true, false, cond, ℤ, pos, negsuc, ◌+ℤ◌, ◌-ℤ◌, List, [], ◌∷◌, refl, sym, subst, ap, ◌∙◌, inl, inr, arith}
-use Rattle.std.specs.Prelude.{neg_ℤ, ◌*ℤ◌, nat_lt, int_lt, int_le}
+use Rattle.std.proofs.Common.{◌≡◌, ℕ, suc, ◌-◌, ◌<◌, ◌≤◌, ◌^◌, Bool, true, false, cond, ℤ, pos, negsuc, ◌+ℤ◌, refl, sym, ap, ◌∙◌, arith}
+use Rattle.std.specs.Prelude.{neg_ℤ, ◌*ℤ◌, nat_lt}
 use Rattle.std.proofs.lemmas.Int.{ints}
-use Rattle.std.proofs.lemmas.Nat.{pow_pos, mod_below}
+use Rattle.std.proofs.lemmas.Nat.{pow_pos}
 use Rattle.std.proofs.lemmas.Bool.{lt-ltb, le-ltb, ltb-true, ltb-false}
 use Rattle.std.proofs.Math.Nat.{mod-eq_of_lt}
-use lib.Signed.{◌<ℤ◌, ◌≤ℤ◌}
+use lib.Signed.{◌≤ℤ◌}
 use Rattle.c_prog.specs.Integers.{FitsBits, residue, signed_number, least_of, greatest_of}
 use Rattle.c_prog.specs.Operators.{reduced}
 use Rattle.c_prog.proofs.Residues.{Same, residue_below, residue_same, residue_differs}
 use Rattle.c_prog.proofs.Products.{add-mul, mul-neg}
 use lib.IntN.{*ℤ_comm}
-use Rattle.ival_core.specs.declared.value.Progression.{Progression}
-use Rattle.ival_core.specs.declared.value.Ival.{Ival}
-use Rattle.ival_core.specs.declared.value.Shape.{Shape}
-use Rattle.ival_core.specs.declared.value.Shape.TheVariants.{Few, Many}
-use Rattle.ival_core.specs.Sets.{apart, Among, IsNumber, IsLongRun, IsValid, Has, Steps}
-use Rattle.ival_core.specs.Ivals.{Holds, IsOnly}
-use Rattle.ival_core.specs.Joined.{joined}
-use Rattle.ival_arith.proofs.Words.{ends, half, powers}
+use Rattle.ival_arith.proofs.Words.{half}
 
 -- ---- the number that a pattern stands for
 

@@ -4,8 +4,17 @@
 //!
 //! No call takes memory.
 
+mod bits;
+mod masks;
 mod parts;
+mod shifts;
+mod spans;
 mod wraps;
 
+pub use bits::bitwise;
 pub use parts::{concat, extract};
+pub use shifts::shift;
 pub use wraps::wrap;
+
+#[cfg(test)]
+mod tests;

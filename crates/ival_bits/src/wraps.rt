@@ -27,21 +27,21 @@ fn reduced(bits: u32, signed: bool, n: i128) -> i128
 }
 
 /// 2 to the `exponent`, less 1.
-fn last(exponent: u32) -> i128
+pub(crate) fn last(exponent: u32) -> i128
     requires { exponent ≤ 64 }
     ensures { result ≡ pos (2 ^ exponent - 1) }
 {
     power(exponent) as i128 - 1
 }
 
-fn whole(exponent: u32) -> i128
+pub(crate) fn whole(exponent: u32) -> i128
     requires { exponent ≤ 64 }
     ensures { result ≡ pos (2 ^ exponent) }
 {
     power(exponent) as i128
 }
 
-fn negative(exponent: u32) -> i128
+pub(crate) fn negative(exponent: u32) -> i128
     requires { exponent ≤ 64 }
     ensures { result ≡ neg_ℤ (pos (2 ^ exponent)) }
 {

@@ -22,7 +22,7 @@ returns-in-Div c = let o = c.args.format in let a = c.args.a.now.shape in let b 
 
 pub returns-in-Rem : goal.returns-in-Rem
 returns-in-Rem c = let o = c.args.format in let a = c.args.a.now.shape in let b = c.args.b.now.shape in
-    c.remainders.ensures ∙ long_rem o.signed o.width a b ∙ ap (λ op. long_value op o.signed o.width a b) (sym c.in-Rem.is)
+    c.divided-in-Rem.ensures ∙ long_rem o.signed o.width a b ∙ ap (λ op. long_value op o.signed o.width a b) (sym c.in-Rem.is)
 
 pub returns-in-And : goal.returns-in-And
 returns-in-And c =

@@ -15,4 +15,4 @@ pub returns-in-Few : goal.returns-in-Few
 returns-in-Few c = let o = c.args.format in multiplied_run_few o.signed o.width c.args.a.now.shape c.args.b.now.shape c.shape.result.now c.lines.result.shape _ _ c.as_slice.result.now c.requires.run c.shape.ensures c.in-Few.is c.as_slice.ensures.value c.lines.ensures
 
 pub returns-in-Many : goal.returns-in-Many
-returns-in-Many c = let o = c.args.format in multiplied_runs o.signed o.width c.args.a.now.shape c.args.b.now.shape c.shape.result.now c.product_hull.result.shape _ _ c.requires.run c.shape.ensures c.in-Many.is c.product_hull.ensures
+returns-in-Many c = let o = c.args.format in multiplied_runs o.signed o.width c.args.a.now.shape c.args.b.now.shape c.shape.result.now c.runs_multiplied.result.shape _ _ c.requires.run c.shape.ensures c.in-Many.is c.runs_multiplied.ensures

@@ -1,9 +1,6 @@
-use Rattle.std.proofs.Common.{rules, ◌≡◌, ◌<◌, ◌≤◌, ◌+◌, ◌-◌, ◌^◌, ◌%◌, ◌/◌, ◌==◌, ℤ, pos, ◌<ℤ◌, ◌≤ℤ◌, cond, map, ℕ, ◌*◌, length, Bool, true, false, nat_eq, nat_lt, List, [], ◌∷◌, ◌++◌, slice_index_or, slice_set, bit_and, bit_or, Fits, w8, w32, w64, Bor, MutBor, ◌+ℤ◌, ◌-ℤ◌, ◌*ℤ◌, FitsSigned, to_z, of_z}
-use Rattle.c_prog.specs.Operators as operators
-use Rattle.ival_core.specs.Sets.{IsNumber, AllNumbers, IsLongRun}
-use Rattle.ival_core.specs.Ivals.{Holds, IsOnly}
-use Rattle.ival_arith.specs.Pieces.{gathered}
-use Rattle.ival_bits.specs.Parts.{run_floored, floored, part, extracted, glued, concatenated}
+use Rattle.std.proofs.Common.{rules, ◌≡◌, ◌^◌, pos, ◌*ℤ◌}
+use Rattle.ival_core.specs.Sets.{IsNumber}
+use Rattle.ival_bits.specs.Parts.{concatenated}
 use Rattle.ival_bits.proofs.parts.concat.Goals as goal
 use Rattle.std.proofs.Common.{ap, sym, subst, ◌∙◌, ◌^◌}
 use Rattle.std.specs.Prelude.{neg_ℤ, ◌*ℤ◌}

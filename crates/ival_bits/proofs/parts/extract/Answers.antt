@@ -1,9 +1,5 @@
-use Rattle.std.proofs.Common.{rules, ◌≡◌, ◌<◌, ◌≤◌, ◌+◌, ◌-◌, ◌^◌, ◌%◌, ◌/◌, ◌==◌, ℤ, pos, ◌<ℤ◌, ◌≤ℤ◌, cond, map, ℕ, ◌*◌, length, Bool, true, false, nat_eq, nat_lt, List, [], ◌∷◌, ◌++◌, slice_index_or, slice_set, bit_and, bit_or, Fits, w8, w32, w64, Bor, MutBor}
-use Rattle.c_prog.specs.Operators as operators
-use Rattle.ival_core.specs.Sets.{IsNumber, AllNumbers, IsLongRun}
-use Rattle.ival_core.specs.Ivals.{Holds, IsOnly}
-use Rattle.ival_arith.specs.Pieces.{gathered}
-use Rattle.ival_bits.specs.Parts.{run_floored, floored, part, extracted, glued, concatenated}
+use Rattle.std.proofs.Common.{◌≡◌}
+use Rattle.ival_bits.specs.Parts.{extracted}
 use Rattle.ival_bits.proofs.parts.extract.Goals as goal
 use Rattle.ival_bits.proofs.PartCodes.{extracted_from}
 use Rattle.ival_bits.proofs.PartSets.{extract_holds, extract_single}

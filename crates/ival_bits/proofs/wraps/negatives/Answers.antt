@@ -1,10 +1,6 @@
-use Rattle.std.proofs.Common.{rules, ◌≡◌, ◌<◌, ◌≤◌, ◌^◌, ◌-◌, ℤ, pos, neg_ℤ, ◌+ℤ◌, ℕ, ◌+◌, ◌*◌, length, ◌/◌, ◌%◌, Bool, true, false, nat_eq, nat_lt, List, [], ◌∷◌, ◌++◌, slice_index_or, slice_set, bit_and, bit_or, Fits, w8, w32, w64, Bor, MutBor, ◌-ℤ◌, ◌*ℤ◌, ◌≤ℤ◌, ◌<ℤ◌, FitsSigned, to_z, of_z}
-use Rattle.c_prog.specs.Integers.{FitsBits, greatest_of}
-use Rattle.c_prog.specs.Operators as operators
-use Rattle.ival_core.specs.Sets.{IsNumber, IsLongRun, apart}
-use Rattle.ival_core.specs.Ivals.{Holds, IsOnly}
-use Rattle.ival_arith.specs.Pieces.{all_changed, clipped}
-use Rattle.ival_bits.specs.Wraps.{resigned, run_wrapped, wrapped}
+use Rattle.std.proofs.Common.{rules, ◌≡◌, ◌^◌, ◌-◌, pos, ◌+ℤ◌, FitsSigned}
+use Rattle.ival_core.specs.Sets.{IsNumber}
+use Rattle.ival_arith.specs.Pieces.{clipped}
 use Rattle.ival_bits.proofs.wraps.negatives.Goals as goal
 use Rattle.std.proofs.Common.{FitsSigned, subst, sym, ◌^◌}
 use Rattle.std.specs.Int.{w128}

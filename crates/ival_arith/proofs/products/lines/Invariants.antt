@@ -1,8 +1,0 @@
-use Rattle.std.proofs.Common.{◌≡◌, drop}
-use Rattle.ival_arith.specs.Pieces.{none}
-use Rattle.ival_arith.specs.Values.{lines_onto}
-use Rattle.ival_arith.proofs.products.lines.Given as goal
-
-abbrev pub invariant-loop-other : goal.invariant-loop-other
-invariant-loop-other l =
-    lines_onto l.format.signed l.format.width l.all.shape l.run (drop l.other-index l.others) ≡ lines_onto l.format.signed l.format.width none l.run l.others

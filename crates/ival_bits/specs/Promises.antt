@@ -1,0 +1,31 @@
+-- What the operators promise.
+use Rattle.std.specs.Prelude.{◌⊎◌, ℕ, Bool, IsTrue, Option, Some, None}
+use Rattle.c_prog.specs.declared.tree.BinOp.{BinOp}
+use Rattle.c_prog.specs.declared.tree.BinOp.TheVariants.{And, Or, Xor, Shl, Shr}
+use Rattle.ival_core.specs.declared.value.Shape.{Shape}
+use Rattle.ival_core.specs.declared.value.Shape.TheVariants.{Few}
+use Rattle.ival_bits.specs.Masks.{and_by}
+use Rattle.ival_bits.specs.Bitwise.{is_apart}
+
+abbrev pub IsBitwise : BinOp → Type 0
+IsBitwise And = Unit {0}
+IsBitwise Or = Unit {0}
+IsBitwise Xor = Unit {0}
+IsBitwise op = ⊥
+
+abbrev pub IsShift : BinOp → Type 0
+IsShift Shl = Unit {0}
+IsShift Shr = Unit {0}
+IsShift op = ⊥
+
+abbrev pub IsSome : Option Shape → Type 0
+IsSome None = ⊥
+IsSome (Some s) = Unit {0}
+
+-- where a result has no other numbers, unless there are more than 8: for few numbers, under a mask, and for numbers without common bits
+abbrev pub IsSharp : BinOp → Bool → ℕ → Shape → Shape → Type 0
+IsSharp op signed width (Few v) (Few u) = Unit {0}
+IsSharp And signed width s t = IsSome (and_by signed width s t) ⊎ IsSome (and_by signed width t s)
+IsSharp Or signed width s t = IsTrue (is_apart s t)
+IsSharp Xor signed width s t = IsTrue (is_apart s t)
+IsSharp op signed width s t = ⊥
