@@ -22,8 +22,6 @@ pub mod scope;
 mod specified;
 mod specifiers;
 mod suffixes;
-#[cfg(test)]
-mod tests;
 mod type_names;
 mod unary;
 pub mod words;
