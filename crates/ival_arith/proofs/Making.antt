@@ -39,12 +39,12 @@ pub record IsWidth (width : ℕ) : Type 0 where
 
 -- ---- few numbers
 
-kept_one : (r : Result ℤ Kind) (ns : List ℤ) (n : ℤ) → Among (kept r ns) n → (r ≡ Ok n) ⊎ Among ns n
+pub kept_one : (r : Result ℤ Kind) (ns : List ℤ) (n : ℤ) → Among (kept r ns) n → (r ≡ Ok n) ⊎ Among ns n
 kept_one (Ok m) ns n (inl e) = inl (ap Ok (sym e))
 kept_one (Ok m) ns n (inr k) = inr k
 kept_one (Err kind) ns n k = inr k
 
-one_kept : (r : Result ℤ Kind) (ns : List ℤ) (n : ℤ) → (r ≡ Ok n) ⊎ Among ns n → Among (kept r ns) n
+pub one_kept : (r : Result ℤ Kind) (ns : List ℤ) (n : ℤ) → (r ≡ Ok n) ⊎ Among ns n → Among (kept r ns) n
 one_kept (Ok m) ns n (inl e) = inl (unok m n e)
   where
     unok : (m n : ℤ) → ◌≡◌ {A = Result ℤ Kind} (Ok m) (Ok n) → n ≡ m

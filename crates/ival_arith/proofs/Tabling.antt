@@ -17,8 +17,8 @@ use Rattle.ival_core.proofs.Insertion.{IsLeast-same}
 use Rattle.ival_arith.specs.declared.pieces.Change.TheVariants.{Negative}
 use Rattle.ival_arith.specs.Pieces.{none, gathered, all_changed}
 use Rattle.ival_arith.specs.Values.{rows, added, runs_multiplied, multiplied, part_lines, part_spread, op_of, numbers_divided, or_else, divided, long_value, value}
-use Rattle.ival_arith.specs.Promises.{IsArithmetic, IsSome, IsSharp}
-use Rattle.ival_arith.proofs.Fits.{Fits, Fits-same, Makes-fits, few_not_nine}
+use Rattle.ival_arith.specs.Promises.{IsArithmetic, IsSharp}
+use Rattle.ival_arith.proofs.Fits.{Fits, Fits-same, Fits-nine, Makes-fits, few_not_nine}
 use Rattle.ival_arith.proofs.Parts.{all_changed-exactly}
 use Rattle.ival_arith.proofs.Adding.{Sum, at_first}
 use Rattle.ival_arith.proofs.Making.{Made, Typed, IsWidth, FitsEnds, true_fits, rows-makes}
@@ -32,7 +32,7 @@ use Rattle.ival_arith.specs.declared.divisions.Part.{Part}
 use Rattle.ival_arith.specs.declared.divisions.Part.TheVariants.{Quotient, Remainder}
 use Rattle.ival_arith.proofs.Crossing.{all_fit, runs_cover}
 use Rattle.ival_arith.proofs.Dividing.{part_lines-fits}
-use Rattle.ival_arith.proofs.Trying.{numbers_divided-fits}
+use Rattle.ival_arith.proofs.Trying.{Tried, numbers_divided-tried}
 use Rattle.ival_arith.proofs.Spreading.{Covers, Fits-covers, OneShort, Product, Word, multiplied-fits, quotient_spread, remainder_spread, unok}
 
 -- ---- the table
@@ -146,23 +146,20 @@ unfolding part_spread
 spread_covers Quotient signed width s t w a b = quotient_spread signed width s t w a b
 spread_covers Remainder signed width s t w a b = remainder_spread signed width s t w a b
 
+tried_fits : (part : Part) (signed : Bool) (width : ℕ) (v : ArrayVec ℤ) (q : Progression) → IsWidth width → Word signed width (Few v) → Word signed width (Many q) → Fits (Made (op_of part) signed width (Among v.items) (Steps q)) (divided part signed width (Few v) (Many q))
+unfolding divided
+tried_fits part signed width v q w a b =
+    by_tries (numbers_divided part signed width (Many q) (Some none) v.items) (numbers_divided-tried part signed width (Many q) v.items w b.valid b.typed a.typed)
+  where
+    by_tries : (o : Option Shape) → Tried (Made (op_of part) signed width (Among v.items) (Steps q)) o → Fits (Made (op_of part) signed width (Among v.items) (Steps q)) (or_else o (part_spread part signed width (Few v) (Many q)))
+    by_tries (Some r) t = t
+    by_tries None t = let c = spread_covers part signed width (Few v) (Many q) w a b in Fits-nine (Made (op_of part) signed width (Among v.items) (Steps q)) (part_spread part signed width (Few v) (Many q)) c.valid c.holds t
+
 divided_covers : (part : Part) (signed : Bool) (width : ℕ) (s t : Shape) → IsWidth width → Word signed width s → Word signed width t → Covers (Made (op_of part) signed width (Has s) (Has t)) (divided part signed width s t)
 unfolding divided
 divided_covers part signed width s (Few u) w a b = Fits-covers (Made (op_of part) signed width (Has s) (Among u.items)) (part_lines part signed width none s u.items) (part_lines-fits part signed width s u.items w a.valid a.typed b.typed)
-divided_covers part signed width (Few v) (Many q) w a b = by_tries (numbers_divided part signed width (Many q) (Some none) v.items) refl
-  where
-    by_tries : (o : Option Shape) → numbers_divided part signed width (Many q) (Some none) v.items ≡ o → Covers (Made (op_of part) signed width (Among v.items) (Steps q)) (or_else o (part_spread part signed width (Few v) (Many q)))
-    by_tries (Some r) e = Fits-covers (Made (op_of part) signed width (Among v.items) (Steps q)) r (numbers_divided-fits part signed width (Many q) r v.items w b.valid b.typed a.typed e)
-    by_tries None e = spread_covers part signed width (Few v) (Many q) w a b
+divided_covers part signed width (Few v) (Many q) w a b = Fits-covers (Made (op_of part) signed width (Among v.items) (Steps q)) (divided part signed width (Few v) (Many q)) (tried_fits part signed width v q w a b)
 divided_covers part signed width (Many p) (Many q) w a b = spread_covers part signed width (Many p) (Many q) w a b
-
-tried_fits : (part : Part) (signed : Bool) (width : ℕ) (v : ArrayVec ℤ) (q : Progression) → IsWidth width → Word signed width (Few v) → Word signed width (Many q) → IsSome (numbers_divided part signed width (Many q) (Some none) v.items) → Fits (Made (op_of part) signed width (Among v.items) (Steps q)) (divided part signed width (Few v) (Many q))
-unfolding divided
-tried_fits part signed width v q w a b h = by_tries (numbers_divided part signed width (Many q) (Some none) v.items) refl h
-  where
-    by_tries : (o : Option Shape) → numbers_divided part signed width (Many q) (Some none) v.items ≡ o → IsSome o → Fits (Made (op_of part) signed width (Among v.items) (Steps q)) (or_else o (part_spread part signed width (Few v) (Many q)))
-    by_tries (Some r) e h = numbers_divided-fits part signed width (Many q) r v.items w b.valid b.typed a.typed e
-    by_tries None e h = absurd h
 
 divided_fits : (part : Part) (signed : Bool) (width : ℕ) (s : Shape) (u : ArrayVec ℤ) → IsWidth width → Word signed width s → Word signed width (Few u) → Fits (Made (op_of part) signed width (Has s) (Among u.items)) (divided part signed width s (Few u))
 unfolding divided
@@ -200,8 +197,8 @@ value-fits Add signed width (Many p) t h k = add_fits signed width (Many p) t tt
 value-fits Sub signed width (Many p) t h k = sub_fits signed width (Many p) t tt k.room k.left k.right
 value-fits Mul signed width (Many p) (Few u) h k = mul_fits signed width (Many p) (Few u) tt k.room k.left k.right
 value-fits Mul signed width (Many p) (Many q) h k = runs_product signed width p q k.room k.left k.right
-value-fits Div signed width (Few v) (Many q) h k = tried_fits Quotient signed width v q k.room k.left k.right h
-value-fits Rem signed width (Few v) (Many q) h k = tried_fits Remainder signed width v q k.room k.left k.right h
+value-fits Div signed width (Few v) (Many q) h k = tried_fits Quotient signed width v q k.room k.left k.right
+value-fits Rem signed width (Few v) (Many q) h k = tried_fits Remainder signed width v q k.room k.left k.right
 value-fits Div signed width (Many p) (Few u) h k = divided_fits Quotient signed width (Many p) u k.room k.left k.right
 value-fits Rem signed width (Many p) (Few u) h k = divided_fits Remainder signed width (Many p) u k.room k.left k.right
 value-fits op signed width s t h k = absurd h

@@ -1,45 +1,17 @@
 -- How single numbers are divided by the numbers of a set.
-use Rattle.std.proofs.Common.{◌≡◌, ℕ, zero, suc, ◌+◌, ◌-◌, ◌/◌, ◌<◌, ◌≤◌, ◌^◌, Bool, cond, ℤ, pos, ◌+ℤ◌, ◌-ℤ◌, List, [], ◌∷◌, length, drop, get_or, drop-cons, add-one, Option, Some, None, Result, Ok, Err, to_z, of_z, FitsSigned, refl, sym, subst, ap, ◌∙◌, inl, inr, arith}
-use Rattle.std.specs.Prelude.{neg_ℤ, unsigned_abs, nat_lt}
+use Rattle.std.proofs.Common.{◌≡◌, ℕ, zero, suc, ◌+◌, ◌-◌, ◌/◌, ◌<◌, ◌≤◌, ◌^◌, Bool, ℤ, pos, ◌+ℤ◌, ◌-ℤ◌, List, [], ◌∷◌, length, drop, get_or, drop-cons, add-one, Option, Some, None, to_z, of_z, FitsSigned, refl, sym, subst, ap, ◌∙◌, inl, inr, arith}
+use Rattle.std.specs.Prelude.{neg_ℤ, unsigned_abs}
 use Rattle.std.specs.Int.{w128}
 use Rattle.std.proofs.lemmas.Int.{ints, to_z_pos, to_z-of_z}
-use Rattle.std.proofs.lemmas.Bool.{lt-ltb, le-ltb}
 use Rattle.std.proofs.lemmas.List.{drop_all}
-use Rattle.c_prog.specs.declared.kind.Kind.{Kind}
-use Rattle.c_prog.specs.declared.tree.BinOp.{BinOp}
-use Rattle.c_prog.specs.Operators.{operated}
 use Rattle.ival_core.specs.declared.value.Progression.{Progression}
 use Rattle.ival_core.specs.declared.value.Shape.{Shape}
 use Rattle.ival_core.specs.declared.value.Shape.TheVariants.{Many}
 use Rattle.ival_core.specs.Sets.{apart, steps_from, Among, IsNumber}
-use Rattle.ival_core.specs.Joined.{with_number, with_numbers}
 use Rattle.ival_arith.specs.declared.divisions.Part.{Part}
 use Rattle.c_mean.specs.Wide.{IsOperand}
 use Rattle.ival_arith.specs.Pieces.{clipped}
-use Rattle.ival_arith.specs.Values.{kept, row, op_of, with_far, with_divisors, number_divided, numbers_divided}
-use Rattle.ival_arith.proofs.Codes.{with_one, with_no}
-
-with_first : (s : Shape) (r : Result ℤ Kind) (ns : List ℤ) → with_numbers s (kept r ns) ≡ with_numbers (with_numbers s (kept r [])) ns
-with_first s (Ok n) ns = with_one s n ns ∙ ap (λ t. with_numbers t ns) (sym (with_one s n [] ∙ with_no (with_number s n)))
-with_first s (Err k) ns = ap (λ t. with_numbers t ns) (sym (with_no s))
-
-steps_more : (op : BinOp) (signed : Bool) (width : ℕ) (x low : ℤ) (stride count : ℕ) → 0 < count → row op signed width x (steps_from low stride count) ≡ kept (operated op signed width x low) (row op signed width x (steps_from (low +ℤ pos stride) stride (count - 1)))
-unfolding row
-steps_more op signed width x low stride zero h = absurd (omega arith)
-steps_more op signed width x low stride (suc c) h = let e : suc c - 1 ≡ c = omega arith in ap (λ k. kept (operated op signed width x low) (row op signed width x (steps_from (low +ℤ pos stride) stride k))) (sym e)
-
-row_none : (op : BinOp) (signed : Bool) (width : ℕ) (x : ℤ) → row op signed width x [] ≡ []
-unfolding row
-row_none op signed width x = refl
-
-pub with_steps-none : (op : BinOp) (signed : Bool) (width : ℕ) (x low : ℤ) (stride count : ℕ) (s r : Shape) → count ≡ 0 → r ≡ s → r ≡ with_numbers s (row op signed width x (steps_from low stride count))
-with_steps-none op signed width x low stride count s r e f = f ∙ sym (with_no s) ∙ ap (with_numbers s) (sym (row_none op signed width x)) ∙ ap (λ k. with_numbers s (row op signed width x (steps_from low stride k))) (sym e)
-
-pub with_steps-some : (op : BinOp) (signed : Bool) (width : ℕ) (x low : ℤ) (stride count : ℕ) (s m r : Shape) → 0 < count → m ≡ with_numbers s (kept (operated op signed width x low) []) →
-    r ≡ with_numbers m (row op signed width x (steps_from (low +ℤ pos stride) stride (count - 1))) → r ≡ with_numbers s (row op signed width x (steps_from low stride count))
-with_steps-some op signed width x low stride count s m r h e f =
-    f ∙ ap (λ t. with_numbers t (row op signed width x (steps_from (low +ℤ pos stride) stride (count - 1)))) e
-    ∙ sym (with_first s (operated op signed width x low) (row op signed width x (steps_from (low +ℤ pos stride) stride (count - 1)))) ∙ ap (with_numbers s) (sym (steps_more op signed width x low stride count h))
+use Rattle.ival_arith.specs.Values.{with_far, same_results, few_alone, and_then, number_at, with_outcome, with_places, with_divisors, number_divided, numbers_divided}
 
 pub first_step : (low : ℤ) (stride count : ℕ) → 0 < count → Among (steps_from low stride count) low
 first_step low stride zero h = absurd (omega arith)
@@ -49,18 +21,52 @@ pub later_step : (low y : ℤ) (stride count : ℕ) → 0 < count → Among (ste
 later_step low y stride zero h m = absurd (omega arith)
 later_step low y stride (suc c) h m = let e : suc c - 1 ≡ c = omega arith in inr (subst (λ k. Among (steps_from (low +ℤ pos stride) stride k) y) e m)
 
-pub run_some : (op : BinOp) (signed : Bool) (width : ℕ) (x : ℤ) (p : Progression) (s r : Shape) (more : ℕ) → more ≡ apart p.low p.high / p.stride → more < 64 →
-    r ≡ with_numbers s (row op signed width x (steps_from p.low p.stride (more + 1))) → Some r ≡ with_divisors op signed width x (Many p) s
-unfolding with_divisors
-run_some op signed width x p s r more e h f =
-    ap Some f ∙ sym (ap (λ b. cond b (Some (with_numbers s (row op signed width x (steps_from p.low p.stride (more + 1))))) None) (lt-ltb more 64 h))
-    ∙ ap (λ k. cond (nat_lt k 64) (Some (with_numbers s (row op signed width x (steps_from p.low p.stride (k + 1))))) None) e
+-- ---- the places of a run
 
-pub run_none : (op : BinOp) (signed : Bool) (width : ℕ) (x : ℤ) (p : Progression) (s : Shape) (more : ℕ) → more ≡ apart p.low p.high / p.stride → 64 ≤ more → None ≡ with_divisors op signed width x (Many p) s
+at_once : (left : ℕ) (part : Part) (signed : Bool) (width : ℕ) (x : ℤ) (p : Progression) (at : ℕ) (s : Shape) (k n : ℕ) → left ≡ k → at ≡ n → with_places left 0 part signed width x p at s ≡ with_places k 0 part signed width x p n s
+at_once left part signed width x p at s k n e f = ap (λ i. with_places i 0 part signed width x p at s) e ∙ ap (λ i. with_places k 0 part signed width x p i s) f
+
+skipping : (left skip : ℕ) (part : Part) (signed : Bool) (width : ℕ) (x : ℤ) (p : Progression) (at : ℕ) (s : Shape) → with_places left skip part signed width x p at s ≡ with_places (left - skip) 0 part signed width x p (at + skip) s
+unfolding with_places
+skipping zero skip part signed width x p at s = let e : 0 - skip ≡ 0 = omega arith in ap (λ k. with_places k 0 part signed width x p (at + skip) s) (sym e)
+skipping (suc left) zero part signed width x p at s = at_once (suc left) part signed width x p at s (suc left - 0) (at + 0) (omega arith) (omega arith)
+skipping (suc left) (suc skip) part signed width x p at s =
+    let e : left - skip ≡ suc left - suc skip = omega arith in
+    let f : suc at + skip ≡ at + suc skip = omega arith in
+    skipping left skip part signed width x p (suc at) s ∙ ap (λ k. with_places k 0 part signed width x p (suc at + skip) s) e ∙ ap (λ k. with_places (suc left - suc skip) 0 part signed width x p k s) f
+
+one_more : (left : ℕ) (part : Part) (signed : Bool) (width : ℕ) (x : ℤ) (p : Progression) (at : ℕ) (s : Shape) →
+    with_places (suc left) 0 part signed width x p at s ≡ and_then (few_alone (with_outcome part signed width x (number_at p at) s)) (λ t. with_places left (same_results part x (number_at p at) p.stride) part signed width x p (suc at) t)
+unfolding with_places
+one_more left part signed width x p at s = refl
+
+place_here : (part : Part) (signed : Bool) (width : ℕ) (x : ℤ) (p : Progression) (count at : ℕ) (s : Shape) (o : Option Shape) → at < count → o ≡ few_alone (with_outcome part signed width x (number_at p at) s) →
+    with_places (count - at) 0 part signed width x p at s ≡ and_then o (λ t. with_places (count - at - 1) (same_results part x (number_at p at) p.stride) part signed width x p (suc at) t)
+place_here part signed width x p count at s o h e =
+    let k : count - at ≡ suc (count - at - 1) = omega arith in
+    ap (λ n. with_places n 0 part signed width x p at s) k ∙ one_more (count - at - 1) part signed width x p at s
+    ∙ ap (λ r. and_then r (λ t. with_places (count - at - 1) (same_results part x (number_at p at) p.stride) part signed width x p (suc at) t)) (sym e)
+
+pub place_none : (part : Part) (signed : Bool) (width : ℕ) (x : ℤ) (p : Progression) (count at : ℕ) (s : Shape) (u : Option Shape) → at < count → with_places (count - at) 0 part signed width x p at s ≡ u →
+    None ≡ few_alone (with_outcome part signed width x (number_at p at) s) → None ≡ u
+place_none part signed width x p count at s u h e f = sym (place_here part signed width x p count at s None h f) ∙ e
+
+pub place_some : (part : Part) (signed : Bool) (width : ℕ) (x : ℤ) (p : Progression) (count at skip : ℕ) (s t : Shape) (u : Option Shape) → at < count → with_places (count - at) 0 part signed width x p at s ≡ u →
+    Some t ≡ few_alone (with_outcome part signed width x (number_at p at) s) → skip ≡ same_results part x (number_at p at) p.stride → with_places (count - (at + (1 + skip))) 0 part signed width x p (at + (1 + skip)) t ≡ u
+place_some part signed width x p count at skip s t u h e f g =
+    let k : count - (at + (1 + skip)) ≡ count - at - 1 - skip = omega arith in
+    let l : at + (1 + skip) ≡ suc at + skip = omega arith in
+    ap (λ n. with_places n 0 part signed width x p (at + (1 + skip)) t) k ∙ ap (λ n. with_places (count - at - 1 - skip) 0 part signed width x p n t) l
+    ∙ sym (skipping (count - at - 1) skip part signed width x p (suc at) t) ∙ ap (λ n. with_places (count - at - 1) n part signed width x p (suc at) t) g
+    ∙ sym (place_here part signed width x p count at s (Some t) h f) ∙ e
+
+pub places_done : (part : Part) (signed : Bool) (width : ℕ) (x : ℤ) (p : Progression) (count at : ℕ) (s : Shape) (u : Option Shape) → count ≤ at → with_places (count - at) 0 part signed width x p at s ≡ u → Some s ≡ u
+unfolding with_places
+places_done part signed width x p count at s u h e = let k : count - at ≡ 0 = omega arith in sym (ap (λ n. with_places n 0 part signed width x p at s) k) ∙ e
+
+pub run_tried : (part : Part) (signed : Bool) (width : ℕ) (x : ℤ) (p : Progression) (count : ℕ) (s : Shape) (o : Option Shape) → count ≡ apart p.low p.high / p.stride + 1 → o ≡ with_places count 0 part signed width x p 0 s → o ≡ with_divisors part signed width x (Many p) s
 unfolding with_divisors
-run_none op signed width x p s more e h =
-    sym (ap (λ b. cond b (Some (with_numbers s (row op signed width x (steps_from p.low p.stride (more + 1))))) None) (le-ltb more 64 h))
-    ∙ ap (λ k. cond (nat_lt k 64) (Some (with_numbers s (row op signed width x (steps_from p.low p.stride (k + 1))))) None) e
+run_tried part signed width x p count s o e f = f ∙ ap (λ n. with_places n 0 part signed width x p 0 s) e
 
 -- ---- many numbers
 
@@ -111,8 +117,8 @@ next_fits low stride h k = let a = h.least in let b = h.greatest in subst (λ z.
 pub next_is : (low : ℤ) (stride : ℕ) → IsOperand low → stride ≤ 2 ^ 122 → to_z w128 (of_z w128 (low +ℤ to_z w128 stride)) ≡ low +ℤ pos stride
 next_is low stride h k = to_z-of_z w128 (low +ℤ to_z w128 stride) (next_fits low stride h k) ∙ ap (λ z. low +ℤ z) (to_z_pos w128 stride (omega arith))
 
-pub number_divided_by : (part : Part) (signed : Bool) (width : ℕ) (t s near all : Shape) (x : ℤ) (op : BinOp) (o : Option Shape) → op ≡ op_of part → near ≡ clipped (neg_ℤ (pos (unsigned_abs x))) (pos (unsigned_abs x)) t → all ≡ with_far part x t s →
-    o ≡ with_divisors op signed width x near all → o ≡ number_divided part signed width t s x
+pub number_divided_by : (part : Part) (signed : Bool) (width : ℕ) (t s near all : Shape) (x : ℤ) (o : Option Shape) → near ≡ clipped (neg_ℤ (pos (unsigned_abs x))) (pos (unsigned_abs x)) t → all ≡ with_far part x t s →
+    o ≡ with_divisors part signed width x near all → o ≡ number_divided part signed width t s x
 unfolding number_divided
-number_divided_by part signed width t s near all x op o e f g h =
-    h ∙ ap (λ k. with_divisors k signed width x near all) e ∙ ap (λ u. with_divisors (op_of part) signed width x u all) f ∙ ap (with_divisors (op_of part) signed width x (clipped (neg_ℤ (pos (unsigned_abs x))) (pos (unsigned_abs x)) t)) g
+number_divided_by part signed width t s near all x o f g h =
+    h ∙ ap (λ u. with_divisors part signed width x u all) f ∙ ap (with_divisors part signed width x (clipped (neg_ℤ (pos (unsigned_abs x))) (pos (unsigned_abs x)) t)) g

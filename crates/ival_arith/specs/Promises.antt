@@ -1,5 +1,5 @@
 -- What the calls promise.
-use Rattle.std.specs.Prelude.{ℕ, ◌≡◌, Bool, not, ◌&&◌, ℤ, neg_ℤ, int_lt, int_le, Option, Some, None, Result}
+use Rattle.std.specs.Prelude.{ℕ, ◌≡◌, Bool, not, ◌&&◌, ℤ, neg_ℤ, int_lt, int_le, Result}
 use Rattle.c_prog.specs.declared.tree.Rel.{Rel}
 use Rattle.c_prog.specs.declared.tree.Rel.TheVariants.{Lt, Le, Gt, Ge, Eq, Ne}
 use Rattle.c_prog.specs.declared.tree.BinOp.{BinOp}
@@ -15,9 +15,6 @@ use Rattle.ival_core.specs.declared.value.Shape.{Shape}
 use Rattle.ival_core.specs.declared.value.Shape.TheVariants.{Few, Many}
 use Rattle.ival_core.specs.Sets.{IsNumber}
 use Rattle.ival_core.specs.Ivals.{Holds}
-use Rattle.ival_arith.specs.declared.divisions.Part.TheVariants.{Quotient, Remainder}
-use Rattle.ival_arith.specs.Pieces.{none}
-use Rattle.ival_arith.specs.Values.{numbers_divided}
 
 -- n is f of a number of a and one of b
 pub record Outcome (f : ℤ → ℤ → ℤ) (a b : Ival) (n : ℤ) : Type 0 where
@@ -86,10 +83,6 @@ IsArithmetic Div = Unit {0}
 IsArithmetic Rem = Unit {0}
 IsArithmetic op = ⊥
 
-abbrev pub IsSome : Option Shape → Type 0
-IsSome None = ⊥
-IsSome (Some s) = Unit {0}
-
 -- where a result has no other numbers, unless there are more than 8
 abbrev pub IsSharp : BinOp → Bool → ℕ → Shape → Shape → Type 0
 IsSharp op signed width (Few v) (Few u) = Unit {0}
@@ -98,8 +91,8 @@ IsSharp Sub signed width s t = Unit {0}
 IsSharp Mul signed width s t = Unit {0}
 IsSharp Div signed width (Many p) (Few u) = Unit {0}
 IsSharp Rem signed width (Many p) (Few u) = Unit {0}
-IsSharp Div signed width (Few v) (Many q) = IsSome (numbers_divided Quotient signed width (Many q) (Some none) v.items)
-IsSharp Rem signed width (Few v) (Many q) = IsSome (numbers_divided Remainder signed width (Many q) (Some none) v.items)
+IsSharp Div signed width (Few v) (Many q) = Unit {0}
+IsSharp Rem signed width (Few v) (Many q) = Unit {0}
 IsSharp op signed width s t = ⊥
 
 -- f of numbers of a and b in the type's range stays in it

@@ -1,7 +1,7 @@
 -- What an operator gives on two sets of numbers of a type.
 use Rattle.std.specs.Int.{int_min, int_max}
 use Rattle.ival_core.specs.Views.{bounds_of}
-use Rattle.std.specs.Prelude.{Option, Some, None, ℕ, ◌+◌, ◌-◌, ◌*◌, ◌/◌, ◌%◌, ◌^◌, ◌==◌, nat_lt, Bool, true, false, cond, ◌&&◌, ◌||◌, ℤ, pos, negsuc, neg_ℤ, ◌≤ℤ◌, ◌<ℤ◌, ◌*ℤ◌, int_le, int_lt, unsigned_abs, max, min, List, [], ◌∷◌, ◌++◌, map, Result, Ok, Err}
+use Rattle.std.specs.Prelude.{Option, Some, None, ℕ, zero, suc, ◌+◌, ◌-◌, ◌*◌, ◌/◌, ◌%◌, ◌^◌, ◌==◌, nat_lt, Bool, true, false, cond, ◌&&◌, ◌||◌, ℤ, pos, negsuc, neg_ℤ, ◌≤ℤ◌, ◌<ℤ◌, ◌+ℤ◌, ◌*ℤ◌, int_le, int_lt, unsigned_abs, max, min, List, [], ◌∷◌, ◌++◌, map, Result, Ok, Err}
 use Rattle.c_prog.specs.declared.tree.BinOp.{BinOp}
 use Rattle.c_prog.specs.declared.tree.BinOp.TheVariants.{Add, Sub, Mul, Div, Rem}
 use Rattle.c_prog.specs.declared.kind.Kind.{Kind}
@@ -197,16 +197,52 @@ far_part Remainder x = x
 abbrev pub with_far : Part → ℤ → Shape → Shape → Shape
 with_far part x t s = cond (is_far x (bounds_of t)) (with_number s (far_part part x)) s
 
--- s with the results of x with each number of another set, if these are at most 64
-unfoldable pub with_divisors : BinOp → Bool → ℕ → ℤ → Shape → Shape → Option Shape
-with_divisors op signed width x (Few v) s = Some (with_numbers s (row op signed width x v.items))
-with_divisors op signed width x (Many p) s =
-    cond (nat_lt (apart p.low p.high / p.stride) 64) (Some (with_numbers s (row op signed width x (steps_from p.low p.stride (apart p.low p.high / p.stride + 1))))) None
+-- how many steps of stride up from y on keep the quotient of y, in a number of this size
+abbrev pub same_quotients : ℕ → ℤ → ℕ → ℕ
+same_quotients size y stride =
+    cond (is_zero y) 0
+    (cond (int_lt y (pos 0)) ((unsigned_abs y - (size / (size / unsigned_abs y + 1) + 1)) / stride)
+    ((size / max (size / unsigned_abs y) 1 - unsigned_abs y) / stride))
+
+-- how many steps of stride up from y on are passed over, since they give what y gives
+abbrev pub same_results : Part → ℤ → ℤ → ℕ → ℕ
+same_results Quotient x y stride = same_quotients (unsigned_abs x) y stride
+same_results Remainder x y stride = 0
+
+-- a set, unless it has more than 8 numbers
+abbrev pub few_alone : Shape → Option Shape
+few_alone (Few v) = Some (Few v)
+few_alone (Many p) = None
+
+abbrev pub and_then : Option Shape → (Shape → Option Shape) → Option Shape
+and_then None f = None
+and_then (Some s) f = f s
+
+-- the number at a place of a run
+abbrev pub number_at : Progression → ℕ → ℤ
+number_at p at = p.low +ℤ pos (at * p.stride)
+
+-- s with what x gives with a number
+abbrev pub with_outcome : Part → Bool → ℕ → ℤ → ℤ → Shape → Shape
+with_outcome part signed width x y s = with_numbers s (kept (operated (op_of part) signed width x y) [])
+
+-- s with the results of x with the numbers of a run from a place on, of which so many are left and `skip` are passed over,
+-- until there are more than 8 results
+unfoldable pub with_places : ℕ → ℕ → Part → Bool → ℕ → ℤ → Progression → ℕ → Shape → Option Shape
+with_places zero skip part signed width x p at s = Some s
+with_places (suc left) (suc skip) part signed width x p at s = with_places left skip part signed width x p (suc at) s
+with_places (suc left) zero part signed width x p at s =
+    and_then (few_alone (with_outcome part signed width x (number_at p at) s)) (λ t. with_places left (same_results part x (number_at p at) p.stride) part signed width x p (suc at) t)
+
+-- s with the results of x with each number of another set, unless a long set gives more than 8
+unfoldable pub with_divisors : Part → Bool → ℕ → ℤ → Shape → Shape → Option Shape
+with_divisors part signed width x (Few v) s = Some (with_numbers s (row (op_of part) signed width x v.items))
+with_divisors part signed width x (Many p) s = with_places (apart p.low p.high / p.stride + 1) 0 part signed width x p 0 s
 
 -- s with the quotients or remainders of x by the numbers of t
 unfoldable pub number_divided : Part → Bool → ℕ → Shape → Shape → ℤ → Option Shape
 number_divided part signed width t s x =
-    with_divisors (op_of part) signed width x (clipped (neg_ℤ (pos (unsigned_abs x))) (pos (unsigned_abs x)) t) (with_far part x t s)
+    with_divisors part signed width x (clipped (neg_ℤ (pos (unsigned_abs x))) (pos (unsigned_abs x)) t) (with_far part x t s)
 
 -- the same of each of xs
 unfoldable pub numbers_divided : Part → Bool → ℕ → Shape → Option Shape → List ℤ → Option Shape

@@ -1,6 +1,6 @@
 //! Quotients and remainders of single numbers by the numbers of long sets (C11 6.5.5).
 
-ghost use Rattle.std.specs.Prelude.{◌≡◌, ◌≤◌, ◌^◌, ℤ, Some};
+ghost use Rattle.std.specs.Prelude.{◌≡◌, ◌<◌, ◌≤◌, ◌^◌, ℤ, Some};
 ghost use Rattle.c_prog.specs.Integers.{FitsBits, FitsKind};
 ghost use Rattle.ival_core.specs.Sets.{IsNumber, IsLongRun, Among, Steps, steps_from};
 ghost use Rattle.ival_core.specs.Ivals.{Holds};
@@ -9,7 +9,7 @@ ghost use Rattle.ival_core.specs.Views.{bounds_of};
 ghost use Rattle.ival_arith.specs.Exact.{shape_option};
 ghost use Rattle.ival_arith.specs.Pieces.{none};
 ghost use Rattle.ival_arith.specs.Promises.{InType};
-ghost use Rattle.ival_arith.specs.Values.{row, op_of, is_far, far_part, with_far, with_divisors, number_divided, numbers_divided};
+ghost use Rattle.ival_arith.specs.Values.{op_of, is_far, far_part, with_far, same_quotients, same_results, few_alone, number_at, with_outcome, with_divisors, number_divided, numbers_divided};
 
 use crate::divisions::Part;
 use crate::format::Format;
@@ -19,9 +19,6 @@ use crate::values::{with_result, with_row};
 use c_mean::operators::apply_binary;
 use c_prog::tree::BinOp;
 use ival_core::{Ival, Progression, Shape};
-
-/// How many divisors that are not farther from 0 than a number are tried, at most.
-const MOST: u128 = 64;
 
 fn op_of(part: Part) -> BinOp
     ensures { result ≡ op_of part }
@@ -67,56 +64,104 @@ fn with_far(set: &Ival, part: Part, x: i128, divisors: &Ival) -> Ival
     }
 }
 
-/// With the results of `x` with the first `count` numbers of a run.
-fn with_steps(set: &Ival, op: BinOp, format: Format, x: i128, run: Progression, count: u32) -> Ival
-    requires left { FitsKind format.kind format.machine x }
-    requires right { (y : ℤ) → Among (steps_from run.low run.stride count) y → FitsKind format.kind format.machine y }
-    requires small { run.stride ≤ 2 ^ 122 }
-    ensures { result.shape ≡ with_numbers set.now.shape (row op format.signed format.width x (steps_from run.low run.stride count)) }
+/// How many steps of `stride` up from `y` on keep the quotient of `y`, in a number of this size.
+fn same_quotients(size: u128, y: i128, stride: u128) -> u128
+    requires moves { 0 < stride }
+    requires number { IsNumber y }
+    requires size { size ≤ 2 ^ 120 }
+    ensures value { result ≡ same_quotients size y stride }
+    ensures small { result ≤ 2 ^ 120 }
 {
-    if count == 0 {
-        return set.copy();
+    if y == 0 {
+        return 0;
     }
-    let outcome = apply_binary(op, format.kind, format.machine, x, run.low);
-    let more = with_result(set.copy(), outcome);
-    let rest = Progression {
-        low: run.low + run.stride as i128,
-        high: run.high,
-        stride: run.stride,
-    };
-    with_steps(&more, op, format, x, rest, count - 1)
+    let divisor = y.unsigned_abs();
+    let quotient = size / divisor;
+    if y < 0 {
+        divisor.saturating_sub(size / (quotient + 1) + 1) / stride
+    } else {
+        (size / quotient.max(1)).saturating_sub(divisor) / stride
+    }
 }
 
-/// With the results of `x` with the numbers of a run, if they are few enough.
-#[tactic(auto, unfolding(crate::specs::Values::with_divisors))]
-fn with_run(set: &Ival, op: BinOp, format: Format, x: i128, run: Progression) -> Option<Ival>
+/// How many steps of `stride` up from `y` on are passed over, since they give what `y` gives.
+fn same_results(part: Part, x: i128, y: i128, stride: u128) -> u128
+    requires moves { 0 < stride }
+    requires left { IsNumber x }
+    requires right { IsNumber y }
+    ensures value { result ≡ same_results part x y stride }
+    ensures small { result ≤ 2 ^ 120 }
+{
+    match part {
+        Part::Quotient => same_quotients(x.unsigned_abs(), y, stride),
+        Part::Remainder => 0,
+    }
+}
+
+/// A set, unless it has more than 8 numbers.
+fn few_alone(set: &Ival) -> Option<Ival>
+    ensures { shape_option result ≡ few_alone set.now.shape }
+{
+    match set.shape() {
+        Shape::Few(_) => Some(set.copy()),
+        Shape::Many(_) => None,
+    }
+}
+
+/// The number at a place of a run.
+fn number_at(run: Progression, at: u128) -> i128
+    requires low { IsNumber run.low }
+    requires number { IsNumber (number_at run at) }
+    ensures { result ≡ number_at run at }
+{
+    run.low + (at * run.stride) as i128
+}
+
+/// With the result of `x` with `y`, if there is one, unless more than 8 are there then.
+fn with_outcome(set: &Ival, part: Part, format: Format, x: i128, y: i128) -> Option<Ival>
+    requires left { FitsBits format.signed format.width x }
+    requires right { FitsBits format.signed format.width y }
+    ensures { shape_option result ≡ few_alone (with_outcome part format.signed format.width x y set.now.shape) }
+{
+    let outcome = apply_binary(op_of(part), format.kind, format.machine, x, y);
+    few_alone(&with_result(set.copy(), outcome))
+}
+
+/// With the results of `x` with the numbers of a run, until there are more than 8 results.
+fn with_places(set: &Ival, part: Part, format: Format, x: i128, run: Progression) -> Option<Ival>
     requires left { FitsBits format.signed format.width x }
     requires long { IsLongRun run }
     requires right { (y : ℤ) → Steps run y → FitsBits format.signed format.width y }
-    ensures { shape_option result ≡ with_divisors op format.signed format.width x (Shape.Many run) set.now.shape }
+    ensures { shape_option result ≡ with_divisors part format.signed format.width x (Shape.Many run) set.now.shape }
 {
-    let more = run.high.abs_diff(run.low) / run.stride;
-    if more < MOST {
-        Some(with_steps(set, op, format, x, run, more as u32 + 1))
-    } else {
-        None
+    let count = run.high.abs_diff(run.low) / run.stride + 1;
+    let mut all = set.copy();
+    let mut at = 0;
+    'trying: while at < count {
+        let y = number_at(run, at);
+        match with_outcome(&all, part, format, x, y) {
+            None => return None,
+            Some(more) => all = more,
+        }
+        at += 1 + same_results(part, x, y, run.stride);
     }
+    Some(all)
 }
 
-/// With the results of `x` with each number of another set, if they are few enough.
+/// With the results of `x` with each number of another set, unless a long set gives more than 8.
 #[tactic(auto, unfolding(crate::specs::Values::with_divisors))]
-fn with_divisors(set: &Ival, op: BinOp, format: Format, x: i128, near: &Ival) -> Option<Ival>
+fn with_divisors(set: &Ival, part: Part, format: Format, x: i128, near: &Ival) -> Option<Ival>
     requires left { FitsBits format.signed format.width x }
     requires right { InType format.signed format.width near.now }
-    ensures { shape_option result ≡ with_divisors op format.signed format.width x near.now.shape set.now.shape }
+    ensures { shape_option result ≡ with_divisors part format.signed format.width x near.now.shape set.now.shape }
 {
     match near.shape() {
-        Shape::Few(few) => Some(with_row(set, op, format, x, few.as_slice())),
-        Shape::Many(run) => with_run(set, op, format, x, *run),
+        Shape::Few(few) => Some(with_row(set, op_of(part), format, x, few.as_slice())),
+        Shape::Many(run) => with_places(set, part, format, x, *run),
     }
 }
 
-/// With the quotients or remainders of `x` by the numbers of a set, if they are tried.
+/// With the quotients or remainders of `x` by the numbers of a set, unless more than 8 are found.
 #[tactic(auto, unfolding(crate::specs::Values::number_divided))]
 fn number_divided(set: &Ival, part: Part, format: Format, x: i128, divisors: &Ival) -> Option<Ival>
     requires left { FitsBits format.signed format.width x }
@@ -126,10 +171,10 @@ fn number_divided(set: &Ival, part: Part, format: Format, x: i128, divisors: &Iv
     let size = x.unsigned_abs() as i128;
     let near = clipped(divisors, -size, size);
     let all = with_far(set, part, x, divisors);
-    with_divisors(&all, op_of(part), format, x, &near)
+    with_divisors(&all, part, format, x, &near)
 }
 
-/// The quotients or remainders of numbers by those of a set, if they are tried.
+/// The quotients or remainders of numbers by those of a set, unless more than 8 are found.
 pub(crate) fn numbers_divided(
     part: Part,
     format: Format,

@@ -115,6 +115,28 @@ fn divisions_of_one_number(rt: HostRuntime) -> Result<(), Fail> {
 }
 
 #[test]
+fn divisions_by_many_near_divisors(rt: HostRuntime) -> Result<(), Fail> {
+    let half = answer(
+        BinOp::Div,
+        &Ival::single(1000),
+        &Ival::range(501, 1000, 0, 1),
+    );
+    assert_eq!(rt; half.value.as_single(), Some(1));
+    let wide = Ival::range(-INT_GREATEST, -0x2000_0000, 0, 1);
+    let greatest = answer(BinOp::Div, &Ival::single(INT_GREATEST), &wide);
+    let numbers = greatest.value.numbers().ok_or("three quotients")?;
+    assert_eq!(rt; numbers, [-3, -2, -1].as_slice());
+    let multiple = Ival::single(5_342_931_457_063_200);
+    let small = Ival::range(-40, 40, 0, 1);
+    let whole = binary(BinOp::Rem, IntKind::Long, Machine::Lp64, &multiple, &small);
+    assert_eq!(rt; whole.value.as_single(), Some(0));
+    let thousand = Ival::range(1, 1000, 0, 1);
+    let rests = answer(BinOp::Rem, &Ival::single(1_000_003), &thousand);
+    assert_eq!(rt; rests.value.bounds(), Some((0, 999)));
+    Ok(())
+}
+
+#[test]
 fn relations(rt: HostRuntime) {
     let fours = Ival::range(0, 80, 0, 4);
     let odd = Ival::range(1, 81, 1, 4);

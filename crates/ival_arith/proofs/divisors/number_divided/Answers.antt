@@ -37,6 +37,6 @@ returns c =
     let d = c.args.divisors.now.shape in
     let k : c.unsigned_abs-size.result ≡ unsigned_abs c.args.x = simp to_z-of_z at c.unsigned_abs-size.ensures.value in
     let s = size_small c.args.x c.unsigned_abs-size.result i k in
-    number_divided_by c.args.part o.signed o.width d c.args.set.now.shape c.clipped-near.result.shape c.with_far-all.result.shape c.args.x c.op_of.result (shape_option c.with_divisors.result) c.op_of.ensures
+    number_divided_by c.args.part o.signed o.width d c.args.set.now.shape c.clipped-near.result.shape c.with_far-all.result.shape c.args.x (shape_option c.with_divisors.result)
     (c.clipped-near.ensures ∙ ap (λ z. clipped z (to_z w128 c.unsigned_abs-size.result) d) (minus_is c.unsigned_abs-size.result s) ∙ ap (λ z. clipped (neg_ℤ (pos c.unsigned_abs-size.result)) z d) (size_is c.unsigned_abs-size.result s) ∙ ap (λ n. clipped (neg_ℤ (pos n)) (pos n) d) k)
     (simp to_z-of_z at c.with_far-all.ensures) (simp to_z-of_z at c.with_divisors.ensures)

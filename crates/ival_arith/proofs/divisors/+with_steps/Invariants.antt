@@ -1,4 +1,0 @@
-use Rattle.ival_arith.proofs.divisors.+with_steps.Given as goal
-
-abbrev pub decreases-with_steps : goal.decreases-with_steps
-decreases-with_steps l = l.count
