@@ -11,7 +11,7 @@ use Rattle.ival_core.specs.Sets.{apart, steps_from, Among, IsNumber}
 use Rattle.ival_arith.specs.declared.divisions.Part.{Part}
 use Rattle.c_mean.specs.Wide.{IsOperand}
 use Rattle.ival_arith.specs.Pieces.{clipped}
-use Rattle.ival_arith.specs.Values.{with_far, same_results, few_alone, and_then, number_at, with_outcome, with_places, with_divisors, number_divided, numbers_divided}
+use Rattle.ival_arith.specs.Values.{with_far, same_results, going_on, and_then, number_at, with_outcome, with_places, with_divisors, number_divided, numbers_divided}
 
 pub first_step : (low : ℤ) (stride count : ℕ) → 0 < count → Among (steps_from low stride count) low
 first_step low stride zero h = absurd (omega arith)
@@ -36,11 +36,11 @@ skipping (suc left) (suc skip) part signed width x p at s =
     skipping left skip part signed width x p (suc at) s ∙ ap (λ k. with_places k 0 part signed width x p (suc at + skip) s) e ∙ ap (λ k. with_places (suc left - suc skip) 0 part signed width x p k s) f
 
 one_more : (left : ℕ) (part : Part) (signed : Bool) (width : ℕ) (x : ℤ) (p : Progression) (at : ℕ) (s : Shape) →
-    with_places (suc left) 0 part signed width x p at s ≡ and_then (few_alone (with_outcome part signed width x (number_at p at) s)) (λ t. with_places left (same_results part x (number_at p at) p.stride) part signed width x p (suc at) t)
+    with_places (suc left) 0 part signed width x p at s ≡ and_then (going_on left (with_outcome part signed width x (number_at p at) s)) (λ t. with_places left (same_results part x (number_at p at) p.stride) part signed width x p (suc at) t)
 unfolding with_places
 one_more left part signed width x p at s = refl
 
-place_here : (part : Part) (signed : Bool) (width : ℕ) (x : ℤ) (p : Progression) (count at : ℕ) (s : Shape) (o : Option Shape) → at < count → o ≡ few_alone (with_outcome part signed width x (number_at p at) s) →
+place_here : (part : Part) (signed : Bool) (width : ℕ) (x : ℤ) (p : Progression) (count at : ℕ) (s : Shape) (o : Option Shape) → at < count → o ≡ going_on (count - at - 1) (with_outcome part signed width x (number_at p at) s) →
     with_places (count - at) 0 part signed width x p at s ≡ and_then o (λ t. with_places (count - at - 1) (same_results part x (number_at p at) p.stride) part signed width x p (suc at) t)
 place_here part signed width x p count at s o h e =
     let k : count - at ≡ suc (count - at - 1) = omega arith in
@@ -48,11 +48,11 @@ place_here part signed width x p count at s o h e =
     ∙ ap (λ r. and_then r (λ t. with_places (count - at - 1) (same_results part x (number_at p at) p.stride) part signed width x p (suc at) t)) (sym e)
 
 pub place_none : (part : Part) (signed : Bool) (width : ℕ) (x : ℤ) (p : Progression) (count at : ℕ) (s : Shape) (u : Option Shape) → at < count → with_places (count - at) 0 part signed width x p at s ≡ u →
-    None ≡ few_alone (with_outcome part signed width x (number_at p at) s) → None ≡ u
+    None ≡ going_on (count - at - 1) (with_outcome part signed width x (number_at p at) s) → None ≡ u
 place_none part signed width x p count at s u h e f = sym (place_here part signed width x p count at s None h f) ∙ e
 
 pub place_some : (part : Part) (signed : Bool) (width : ℕ) (x : ℤ) (p : Progression) (count at skip : ℕ) (s t : Shape) (u : Option Shape) → at < count → with_places (count - at) 0 part signed width x p at s ≡ u →
-    Some t ≡ few_alone (with_outcome part signed width x (number_at p at) s) → skip ≡ same_results part x (number_at p at) p.stride → with_places (count - (at + (1 + skip))) 0 part signed width x p (at + (1 + skip)) t ≡ u
+    Some t ≡ going_on (count - at - 1) (with_outcome part signed width x (number_at p at) s) → skip ≡ same_results part x (number_at p at) p.stride → with_places (count - (at + (1 + skip))) 0 part signed width x p (at + (1 + skip)) t ≡ u
 place_some part signed width x p count at skip s t u h e f g =
     let k : count - (at + (1 + skip)) ≡ count - at - 1 - skip = omega arith in
     let l : at + (1 + skip) ≡ suc at + skip = omega arith in

@@ -1,6 +1,6 @@
 -- Quotients and remainders of single numbers by the numbers of a set.
 use Rattle.std.proofs.Common.{◌≡◌, ◌⊎◌, ℕ, zero, suc, ◌+◌, ◌-◌, ◌*◌, ◌/◌, ◌<◌, ◌≤◌, Bool, true, false, cond, ℤ, pos, negsuc, ◌+ℤ◌, ◌-ℤ◌, List, [], ◌∷◌, Option, Some, None, Result, Ok, refl, sym, subst, ap, ◌∙◌, inl, inr, arith}
-use Rattle.std.specs.Prelude.{neg_ℤ, ◌&&◌, ◌||◌, int_le, int_lt, unsigned_abs, max, int_div}
+use Rattle.std.specs.Prelude.{neg_ℤ, ◌&&◌, ◌||◌, int_le, int_lt, unsigned_abs, max, int_div, nat_lt}
 use Rattle.std.proofs.lemmas.Int.{ints, by_lt_z}
 use Rattle.std.proofs.Math.Nat.{div-eq_of_lt, mod-eq_of_lt, div-mul_cancel, div-mul-le_self, le-div_iff_mul-le, div-lt_iff_lt-mul, div-eq_of_lt-le}
 use Rattle.std.proofs.lemmas.Nat.{mul-le}
@@ -24,7 +24,7 @@ use Rattle.ival_core.proofs.Runs.{steps_from-at, steps_from-among, Steps-from_at
 use Rattle.ival_arith.specs.declared.divisions.Part.{Part}
 use Rattle.ival_arith.specs.declared.divisions.Part.TheVariants.{Quotient, Remainder}
 use Rattle.ival_arith.specs.Pieces.{none, clipped}
-use Rattle.ival_arith.specs.Values.{kept, row, op_of, is_far, far_part, with_far, same_results, few_alone, and_then, number_at, with_outcome, with_places, with_divisors, number_divided, numbers_divided}
+use Rattle.ival_arith.specs.Values.{kept, row, op_of, is_far, far_part, with_far, same_results, few_alone, going_on, and_then, number_at, with_outcome, with_places, with_divisors, number_divided, numbers_divided}
 use Rattle.ival_arith.proofs.Bounding.{BoundsAre, bounds_are}
 use Rattle.ival_arith.proofs.Codes.{with_one, with_no}
 use Rattle.ival_arith.proofs.Dividing.{part_of, divided_is, is_divided}
@@ -271,6 +271,13 @@ few_alone-tried : (R : ℤ → Type 0) (s : Shape) → Fits R s → Tried R (few
 few_alone-tried R (Few v) f = f
 few_alone-tried R (Many p) f = elim f.sharp [ inl g ↦ HoldsNine-map (Steps p) R g (Steps-hold_nine p f.valid) | inr h ↦ h ]
 
+going_on-tried : (R : ℤ → Type 0) (left : ℕ) (s : Shape) → Fits R s → Tried R (going_on left s)
+going_on-tried R left s f = by_test (nat_lt left 64)
+  where
+    by_test : (b : Bool) → Tried R (cond b (Some s) (few_alone s))
+    by_test true = f
+    by_test false = few_alone-tried R s f
+
 and_then-tried : (P Q : ℤ → Type 0) (o : Option Shape) (f : Shape → Option Shape) → ((n : ℤ) → P n → Q n) → Tried P o → ((s : Shape) → Fits P s → Tried Q (f s)) → Tried Q (and_then o f)
 and_then-tried P Q None f g h k = HoldsNine-map P Q g h
 and_then-tried P Q (Some s) f g h k = k s h
@@ -315,9 +322,9 @@ with_places-tried (suc left) zero part signed width R x p at s m w f k g =
     let y = number_at p at in
     let S : ℤ → Type 0 = λ n. R n ⊎ (operated (op_of part) signed width x y ≡ Ok n) in
     let skip = same_results part x y p.stride in
-    and_then-tried S (λ n. R n ⊎ Placed part signed width x p at (suc left) n) (few_alone (with_outcome part signed width x y s)) (λ t. with_places left skip part signed width x p (suc at) t)
+    and_then-tried S (λ n. R n ⊎ Placed part signed width x p at (suc left) n) (going_on left (with_outcome part signed width x y s)) (λ t. with_places left skip part signed width x p (suc at) t)
     (λ n h. elim h [ inl r ↦ inl r | inr e ↦ inr (here n e) ])
-    (few_alone-tried S (with_outcome part signed width x y s) (with_outcome-fits part signed width R x y s w f g))
+    (going_on-tried S left (with_outcome part signed width x y s) (with_outcome-fits part signed width R x y s w f g))
     (λ t h.
     Tried-same (λ n. S n ⊎ Placed part signed width x p (suc at) left n) (λ n. R n ⊎ Placed part signed width x p at (suc left) n) (with_places left skip part signed width x p (suc at) t)
     (λ n i. elim i [

@@ -214,6 +214,10 @@ abbrev pub few_alone : Shape → Option Shape
 few_alone (Few v) = Some (Few v)
 few_alone (Many p) = None
 
+-- a set, unless it has more than 8 numbers while 64 or more are left to try
+abbrev pub going_on : ℕ → Shape → Option Shape
+going_on left s = cond (nat_lt left 64) (Some s) (few_alone s)
+
 abbrev pub and_then : Option Shape → (Shape → Option Shape) → Option Shape
 and_then None f = None
 and_then (Some s) f = f s
@@ -227,12 +231,12 @@ abbrev pub with_outcome : Part → Bool → ℕ → ℤ → ℤ → Shape → Sh
 with_outcome part signed width x y s = with_numbers s (kept (operated (op_of part) signed width x y) [])
 
 -- s with the results of x with the numbers of a run from a place on, of which so many are left and `skip` are passed over,
--- until there are more than 8 results
+-- unless there are more than 8 results while 64 or more are left
 unfoldable pub with_places : ℕ → ℕ → Part → Bool → ℕ → ℤ → Progression → ℕ → Shape → Option Shape
 with_places zero skip part signed width x p at s = Some s
 with_places (suc left) (suc skip) part signed width x p at s = with_places left skip part signed width x p (suc at) s
 with_places (suc left) zero part signed width x p at s =
-    and_then (few_alone (with_outcome part signed width x (number_at p at) s)) (λ t. with_places left (same_results part x (number_at p at) p.stride) part signed width x p (suc at) t)
+    and_then (going_on left (with_outcome part signed width x (number_at p at) s)) (λ t. with_places left (same_results part x (number_at p at) p.stride) part signed width x p (suc at) t)
 
 -- s with the results of x with each number of another set, unless a long set gives more than 8
 unfoldable pub with_divisors : Part → Bool → ℕ → ℤ → Shape → Shape → Option Shape

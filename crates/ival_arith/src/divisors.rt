@@ -9,7 +9,7 @@ ghost use Rattle.ival_core.specs.Views.{bounds_of};
 ghost use Rattle.ival_arith.specs.Exact.{shape_option};
 ghost use Rattle.ival_arith.specs.Pieces.{none};
 ghost use Rattle.ival_arith.specs.Promises.{InType};
-ghost use Rattle.ival_arith.specs.Values.{op_of, is_far, far_part, with_far, same_quotients, same_results, few_alone, number_at, with_outcome, with_divisors, number_divided, numbers_divided};
+ghost use Rattle.ival_arith.specs.Values.{op_of, is_far, far_part, with_far, same_quotients, same_results, few_alone, going_on, number_at, with_outcome, with_divisors, number_divided, numbers_divided};
 
 use crate::divisions::Part;
 use crate::format::Format;
@@ -19,6 +19,9 @@ use crate::values::{with_result, with_row};
 use c_mean::operators::apply_binary;
 use c_prog::tree::BinOp;
 use ival_core::{Ival, Progression, Shape};
+
+/// How many divisors are tried, at most, once there are more than 8 results.
+const MOST: u128 = 64;
 
 fn op_of(part: Part) -> BinOp
     ensures { result ≡ op_of part }
@@ -108,6 +111,17 @@ fn few_alone(set: &Ival) -> Option<Ival>
     }
 }
 
+/// A set, unless it has more than 8 numbers while many are left to try.
+fn going_on(set: &Ival, left: u128) -> Option<Ival>
+    ensures { shape_option result ≡ going_on left set.now.shape }
+{
+    if left < MOST {
+        Some(set.copy())
+    } else {
+        few_alone(set)
+    }
+}
+
 /// The number at a place of a run.
 fn number_at(run: Progression, at: u128) -> i128
     requires low { IsNumber run.low }
@@ -117,17 +131,24 @@ fn number_at(run: Progression, at: u128) -> i128
     run.low + (at * run.stride) as i128
 }
 
-/// With the result of `x` with `y`, if there is one, unless more than 8 are there then.
-fn with_outcome(set: &Ival, part: Part, format: Format, x: i128, y: i128) -> Option<Ival>
+/// With the result of `x` with `y`, if there is one, unless that is too many while many are left.
+fn with_outcome(
+    set: &Ival,
+    part: Part,
+    format: Format,
+    x: i128,
+    y: i128,
+    left: u128,
+) -> Option<Ival>
     requires left { FitsBits format.signed format.width x }
     requires right { FitsBits format.signed format.width y }
-    ensures { shape_option result ≡ few_alone (with_outcome part format.signed format.width x y set.now.shape) }
+    ensures { shape_option result ≡ going_on left (with_outcome part format.signed format.width x y set.now.shape) }
 {
     let outcome = apply_binary(op_of(part), format.kind, format.machine, x, y);
-    few_alone(&with_result(set.copy(), outcome))
+    going_on(&with_result(set.copy(), outcome), left)
 }
 
-/// With the results of `x` with the numbers of a run, until there are more than 8 results.
+/// With the results of `x` with the numbers of a run, unless they are too many while many are left.
 fn with_places(set: &Ival, part: Part, format: Format, x: i128, run: Progression) -> Option<Ival>
     requires left { FitsBits format.signed format.width x }
     requires long { IsLongRun run }
@@ -139,7 +160,7 @@ fn with_places(set: &Ival, part: Part, format: Format, x: i128, run: Progression
     let mut at = 0;
     'trying: while at < count {
         let y = number_at(run, at);
-        match with_outcome(&all, part, format, x, y) {
+        match with_outcome(&all, part, format, x, y, count - at - 1) {
             None => return None,
             Some(more) => all = more,
         }

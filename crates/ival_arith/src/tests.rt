@@ -130,6 +130,8 @@ fn divisions_by_many_near_divisors(rt: HostRuntime) -> Result<(), Fail> {
     let small = Ival::range(-40, 40, 0, 1);
     let whole = binary(BinOp::Rem, IntKind::Long, Machine::Lp64, &multiple, &small);
     assert_eq!(rt; whole.value.as_single(), Some(0));
+    let near = answer(BinOp::Div, &Ival::single(100), &Ival::range(1, 20, 0, 1));
+    assert_eq!(rt; near.value.bounds(), Some((5, 100)));
     let thousand = Ival::range(1, 1000, 0, 1);
     let rests = answer(BinOp::Rem, &Ival::single(1_000_003), &thousand);
     assert_eq!(rt; rests.value.bounds(), Some((0, 999)));

@@ -1,4 +1,4 @@
-use Rattle.std.proofs.Common.{◌/◌, ◌+◌, None, Some, FitsSigned, sym, subst, ap, ◌∙◌, rules, arith}
+use Rattle.std.proofs.Common.{◌-◌, ◌/◌, ◌+◌, None, Some, FitsSigned, sym, subst, ap, ◌∙◌, rules, arith}
 use Rattle.std.specs.Int.{w128}
 use Rattle.std.proofs.lemmas.Int.{to_z-of_z}
 use Rattle.c_prog.specs.Integers.{FitsBits}
@@ -7,7 +7,7 @@ use Rattle.ival_core.specs.Sets.{IsNumber}
 use Rattle.ival_core.proofs.Runs.{number_fits, Steps-number}
 use Rattle.ival_core.proofs.RunShapes.{steps_to}
 use Rattle.ival_arith.specs.Exact.{shape_option}
-use Rattle.ival_arith.specs.Values.{few_alone, number_at, with_outcome, same_results, with_places}
+use Rattle.ival_arith.specs.Values.{going_on, number_at, with_outcome, same_results, with_places}
 use Rattle.ival_arith.proofs.Words.{fits_operand, operand_number}
 use Rattle.ival_arith.proofs.TrialCodes.{place_none, place_some, places_done, run_tried}
 use Rattle.ival_arith.proofs.Trying.{place_in}
@@ -51,7 +51,7 @@ returns-in-None c =
     let count = c.abs_diff.result / p.stride + 1 in
     run_tried c.args.part o.signed o.width c.args.x p count c.args.set.now.shape None (ap (λ k. k + 1) (steps_to p.low p.high p.stride c.abs_diff.result (simp to_z-of_z at c.abs_diff.ensures)))
     (place_none c.args.part o.signed o.width c.args.x p count c.trying.at c.trying.all.shape (with_places count 0 c.args.part o.signed o.width c.args.x p 0 c.args.set.now.shape) c.trying-test.true (simp to_z-of_z at c.trying.invariant)
-    (sym (ap shape_option c.in-None.is) ∙ (simp to_z-of_z at c.with_outcome.ensures) ∙ ap (λ y. few_alone (with_outcome c.args.part o.signed o.width c.args.x y c.trying.all.shape)) c.number_at-y.ensures))
+    (sym (ap shape_option c.in-None.is) ∙ (simp to_z-of_z at c.with_outcome.ensures) ∙ ap (λ y. going_on (count - c.trying.at - 1) (with_outcome c.args.part o.signed o.width c.args.x y c.trying.all.shape)) c.number_at-y.ensures))
 
 pub same_results-requires-clause-left : goal.same_results-requires-clause-left
 same_results-requires-clause-left c =
@@ -78,7 +78,7 @@ trying-preserved c =
     let count = c.abs_diff.result / p.stride + 1 in
     simp to_z-of_z
     (place_some c.args.part o.signed o.width c.args.x p count c.trying.at c.same_results.result c.trying.all.shape c.in-Some.more.shape (with_places count 0 c.args.part o.signed o.width c.args.x p 0 c.args.set.now.shape) c.trying-test.true (simp to_z-of_z at c.trying.invariant)
-    (sym (ap shape_option c.in-Some.is) ∙ (simp to_z-of_z at c.with_outcome.ensures) ∙ ap (λ y. few_alone (with_outcome c.args.part o.signed o.width c.args.x y c.trying.all.shape)) c.number_at-y.ensures)
+    (sym (ap shape_option c.in-Some.is) ∙ (simp to_z-of_z at c.with_outcome.ensures) ∙ ap (λ y. going_on (count - c.trying.at - 1) (with_outcome c.args.part o.signed o.width c.args.x y c.trying.all.shape)) c.number_at-y.ensures)
     ((simp to_z-of_z at c.same_results.ensures.value) ∙ ap (λ y. same_results c.args.part c.args.x y p.stride) c.number_at-y.ensures))
 
 pub returns : goal.returns
