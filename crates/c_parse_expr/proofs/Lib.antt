@@ -1,6 +1,0 @@
-pub mod code
-pub mod exprs
-pub mod types
-pub mod Knot
-pub mod Promised
-mod Examples
