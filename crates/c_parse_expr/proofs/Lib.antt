@@ -1,0 +1,6 @@
+pub mod code
+pub mod exprs
+pub mod types
+pub mod Knot
+pub mod Promised
+mod Examples

@@ -1,0 +1,17 @@
+pub mod Tokens
+pub mod Rules
+pub mod TypeRules
+pub mod Parsers
+pub mod Found
+pub mod Laws
+pub mod Promises
+pub mod KnownNames
+pub mod Heights
+pub mod Purposes
+pub mod Balance
+pub mod AtDepth
+pub mod TypesAtDepth
+pub mod Reads
+pub mod ReadsTypes
+pub mod Pairs
+pub mod Asking

@@ -1,0 +1,26 @@
+//! What the reader of trees is asked for, and what it answers.
+
+use crate::purpose::{Before, Purpose};
+use c_tree::tree::{Declarator, Expr, Specifier, TypeName};
+
+/// What is asked for.
+#[derive(Clone, Copy, Debug, PartialEq, Eq)]
+pub enum Ask {
+    /// An expression of at least this level.
+    Expr(u32),
+    /// A type name or a parameter.
+    Typing(Purpose),
+    /// A specifier behind others.
+    Specifier(Purpose, Before),
+    /// A declarator behind specifiers.
+    Declarator(Purpose, Before),
+}
+
+/// What is found.
+#[derive(Drop)]
+pub enum Answer {
+    Expr(Expr),
+    Typing(TypeName),
+    Specifier(Specifier),
+    Declarator(Declarator),
+}

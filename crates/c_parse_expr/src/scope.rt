@@ -1,0 +1,34 @@
+//! The names that a reader declares before it fails.
+ghost use Rattle.std.specs.Prelude.{◌≡◌, ◌≤◌};
+ghost use Rattle.c_parse_expr.specs.Reads.{closed};
+
+use crate::found::Found;
+use crate::names::TypeNames;
+use std::alloc::AllocError;
+
+/// Closes the scope that was opened before something was read, and forgets what was declared in it unless it was found.
+pub fn close<'a, T: Drop>(
+    names: &mut TypeNames,
+    below: usize,
+    found: Result<Option<Found<'a, T>>, AllocError>,
+) -> Result<Option<Found<'a, T>>, AllocError>
+    requires { below ≤ names.now.floor }
+    ensures same { result ≡ found.entry }
+    ensures names { names.new.names ≡ closed names.old found.entry }
+    ensures floor { names.new.floor ≡ below }
+{
+    match found {
+        Ok(Some(tree)) => {
+            names.merge(below);
+            Ok(Some(tree))
+        }
+        Ok(None) => {
+            names.leave(below);
+            Ok(None)
+        }
+        Err(error) => {
+            names.leave(below);
+            Err(error)
+        }
+    }
+}

@@ -1,0 +1,5 @@
+//! Tests of the parsers, in a crate of their own so that these are proved once.
+#![tactic(auto)]
+
+#[cfg(test)]
+mod tests;
