@@ -79,6 +79,21 @@ expr_found depth least old new tokens result f tree asked is same low =
     rw same (expr_read depth least old.names new.names tokens (Some (answer_tree f.tree, f.rest.now)) low plain (λ e. cc)
     (λ g e. let h : (answer_tree f.tree, f.rest.now) ≡ g = cc in subst (λ (x : Found). new.names ≡ after old.names x.0) h names))
 
+pub expr_missing_plainly : {E : Type 0} (depth least : ℕ) (old new : Known) (tokens : List Token) (result : Result (Option (CodeFound Answer)) E) →
+    IsAsked depth (ask.Expr least) old new tokens result → result ≡ Ok None → None ≡ expr_at depth old.names least tokens
+expr_missing_plainly depth least old new tokens result asked is =
+    let a = subst (λ r. IsAsked depth (ask.Expr least) old new tokens r) is asked in
+    let found = a.found in
+    found.same
+
+pub expr_found_plainly : {E : Type 0} (depth least : ℕ) (old new : Known) (tokens : List Token) (result : Result (Option (CodeFound Answer)) E) (f : CodeFound Answer)
+    (tree : Tree) → IsAsked depth (ask.Expr least) old new tokens result → result ≡ Ok (Some f) → tree ≡ answer_tree f.tree →
+    Some (tree, f.rest.now) ≡ expr_at depth old.names least tokens
+expr_found_plainly depth least old new tokens result f tree asked is same =
+    let a = subst (λ r. IsAsked depth (ask.Expr least) old new tokens r) is asked in
+    let found = a.found in
+    rw same found.same
+
 pub typing_missing : {E : Type 0} (purpose : CodePurpose) (depth : ℕ) (old new : Known) (tokens : List Token) (result : Result (Option (CodeFound Answer)) E) →
     IsAsked depth (ask.Typing purpose) old new tokens result → result ≡ Ok None → (purpose_of purpose ≡ ForName → ⊥) →
     IsTypingRead (purpose_of purpose) depth old.names new.names tokens None

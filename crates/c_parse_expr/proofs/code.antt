@@ -1,4 +1,4 @@
-pub mod NewestFirst
+pub mod Newest
 pub mod Loops
 pub mod Rounds
 pub mod Literals

@@ -5,7 +5,9 @@ pub mod Parsers
 pub mod Found
 pub mod Laws
 pub mod Promises
+pub mod Declaring
 pub mod KnownNames
+pub mod Newest
 pub mod Heights
 pub mod Purposes
 pub mod Balance

@@ -5,6 +5,7 @@ pub mod asking;
 mod attributes;
 pub mod below;
 mod declarators;
+pub mod declaring;
 mod enums;
 mod expression;
 pub mod fault;

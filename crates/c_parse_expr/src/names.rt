@@ -1,9 +1,11 @@
 //! Which names are typedef names, scope by scope.
-ghost use Rattle.std.specs.Prelude.{◌≡◌, ◌≤◌, ◌∷◌, [], IfOk, OnOk};
+ghost use Rattle.std.specs.Prelude.{◌≡◌, ◌≤◌, ◌<◌, ◌∷◌, [], IfOk, OnOk, IsSome, List, ℕ, bytes_eq, cond, drop, length};
+ghost use Rattle.indexmap.specs.IndexMap.{get};
 ghost use Rattle.c_tree.specs.WellFormed.{is_typedef};
 ghost use Rattle.c_parse_expr.specs.KnownNames.{kept, a_use};
 
 use c_prog::name::Name;
+use indexmap::IndexMap;
 use std::alloc::{AllocError, Global};
 use std::marker::Model;
 
@@ -13,14 +15,16 @@ pub struct NameUse {
     name: Name,
     // a typedef name; else an ordinary one: a variable, a function or an enumeration constant
     is_typedef: bool,
+    // whether the older use that this one hides makes it a typedef name, if there is one
+    hidden: Option<bool>,
 }
 
 impl Model for NameUse {
-    ghost use Rattle.c_tree.specs.WellFormed.{NameUse};
+    ghost use Rattle.c_parse_expr.specs.Newest.{Hiding};
 
-    ghost Value = { NameUse };
+    ghost Value = { Hiding };
 
-    ghost view = { λ u. record { name = u.name; is_typedef = u.is_typedef } };
+    ghost view = { λ u. record { known = record { name = u.name; is_typedef = u.is_typedef }; hidden = u.hidden } };
 }
 
 /// The names that are declared. An inner scope hides the outer ones (C11 6.2.1p4).
@@ -28,32 +32,40 @@ impl Model for NameUse {
 pub struct TypeNames {
     // in the order of their declarations
     uses: Vec<NameUse>,
-    // how many of them were declared before the innermost scope that is open
+    // whether the newest use of each name makes it a typedef name
+    newest: IndexMap<Name, bool>,
+    // how many of the uses were declared before the innermost scope that is open
     floor: usize,
 }
 
 impl Model for TypeNames {
-    ghost use Rattle.std.specs.Prelude.{◌≤◌, length, reverse};
+    ghost use Rattle.std.specs.Prelude.{◌≤◌, length, reverse, bytes_eq};
+    ghost use Rattle.indexmap.specs.IndexMap.{get};
     ghost use Rattle.c_parse_expr.specs.KnownNames.{Known};
+    ghost use Rattle.c_parse_expr.specs.Newest.{known_of, IsLookup};
 
     ghost Value = { Known };
 
-    ghost view = { λ t. record { names = reverse t.uses.items; floor = t.floor } };
+    ghost view = { λ t. record { names = known_of (reverse t.uses.items); floor = t.floor } };
 
-    ghost invariant = { λ t. t.floor ≤ length t.uses.items };
+    ghost invariant = { λ t. (t.floor ≤ length t.uses.items) × IsLookup (get bytes_eq t.newest) (reverse t.uses.items) };
 }
 
-fn copied(alloc: Global, uses: &[NameUse]) -> Result<Vec<NameUse>, AllocError>
-    ensures { IfOk result (λ copies. copies.items ≡ uses.now) }
+// Puts what the newest use of a name hid in its place.
+fn restore(newest: &mut IndexMap<Name, bool>, name: &Name, hidden: Option<bool>)
+    requires { IsSome (get bytes_eq newest.now name.now) }
+    ensures { (other : List ℕ) → get bytes_eq newest.new other ≡ cond (bytes_eq name.now other) hidden (get bytes_eq newest.old other) }
 {
-    let mut copies = Vec::new(alloc);
-    for known in uses {
-        copies.push(NameUse {
-            name: known.name.duplicate(alloc)?,
-            is_typedef: known.is_typedef,
-        })?;
+    match hidden {
+        None => {
+            newest.swap_remove(name);
+        }
+        Some(is_typedef) => {
+            if let Some(found) = newest.get_mut(name) {
+                *found = is_typedef;
+            }
+        }
     }
-    Ok(copies)
 }
 
 impl TypeNames {
@@ -63,6 +75,7 @@ impl TypeNames {
     {
         TypeNames {
             uses: Vec::new(alloc),
+            newest: IndexMap::new(alloc),
             floor: 0,
         }
     }
@@ -71,15 +84,10 @@ impl TypeNames {
     pub fn is_typedef(&self, name: &Name) -> bool
         ensures { result ≡ is_typedef (self.now.names) name.now }
     {
-        let mut left = self.uses.len();
-        while left > 0 {
-            left -= 1;
-            let known = &self.uses[left];
-            if known.name == *name {
-                return known.is_typedef;
-            }
+        match self.newest.get(name) {
+            None => false,
+            Some(is_typedef) => *is_typedef,
         }
-        false
     }
 
     /// Declares a name.
@@ -87,7 +95,15 @@ impl TypeNames {
         ensures added { OnOk result (self.new.names ≡ a_use name is_typedef ∷ self.old.names) }
         ensures kept { kept self.new ≡ kept self.old }
     {
-        self.uses.push(NameUse { name, is_typedef })?;
+        let key = name.duplicate(*self.uses.allocator())?;
+        // With room for it the push below succeeds, so that the map and the uses agree whatever fails.
+        self.uses.reserve(1)?;
+        let hidden = self.newest.insert(key, is_typedef)?;
+        self.uses.push(NameUse {
+            name,
+            is_typedef,
+            hidden,
+        })?;
         Ok(())
     }
 
@@ -103,13 +119,27 @@ impl TypeNames {
         below
     }
 
+    // Undoes the newest declaration: what it hid is in force again.
+    fn forget_newest(&mut self)
+        requires { self.now.floor < length self.now.names }
+        ensures names { self.new.names ≡ drop 1 self.old.names }
+        ensures floor { self.new.floor ≡ self.old.floor }
+    {
+        if let Some(last) = self.uses.pop() {
+            restore(&mut self.newest, &last.name, last.hidden);
+        }
+    }
+
     /// Closes the innermost scope and forgets what was declared in it.
     pub fn leave(&mut self, below: usize)
         requires { below ≤ self.now.floor }
         ensures names { self.new.names ≡ (kept self.old).names }
         ensures floor { self.new.floor ≡ below }
     {
-        self.uses.truncate(self.floor);
+        let count = self.uses.len() - self.floor;
+        for _ in 0..count {
+            self.forget_newest();
+        }
         self.floor = below;
     }
 
@@ -126,9 +156,11 @@ impl TypeNames {
     pub fn duplicate(&self, alloc: Global) -> Result<TypeNames, AllocError>
         ensures { IfOk result (λ copy. copy ≡ self.now) }
     {
-        Ok(TypeNames {
-            uses: copied(alloc, self.uses.as_slice())?,
-            floor: self.floor,
-        })
+        let mut copy = TypeNames::new(alloc);
+        for known in &self.uses {
+            copy.declare(known.name.duplicate(alloc)?, known.is_typedef)?;
+        }
+        copy.floor = self.floor;
+        Ok(copy)
     }
 }

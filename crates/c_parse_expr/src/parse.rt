@@ -3,6 +3,7 @@ ghost use Rattle.std.specs.Prelude.{◌≡◌, ◌<◌, ◌≤◌, ◌-◌, drop
 ghost use Rattle.c_tree.specs.Views.{tree_of, type_name_tree};
 ghost use Rattle.c_parse_expr.specs.Found.{HasNone};
 ghost use Rattle.c_parse_expr.specs.KnownNames.{kept};
+ghost use Rattle.c_parse_expr.specs.Parsers.{expr_at};
 ghost use Rattle.c_parse_expr.specs.Promises.{IsExprRead, IsParsed, IsTypingRead};
 ghost use Rattle.c_parse_expr.specs.Purposes.{purpose_of};
 ghost use Rattle.c_parse_expr.specs.declared.fault.ParseFault.TheVariants as fault;
@@ -33,6 +34,7 @@ pub fn expr_within<'a>(
     requires depth { depth < 1000000 }
     requires level { least ≤ 14 }
     ensures read { IfOk result (λ r. IsExprRead least depth names.old.names names.new.names tokens.now (option_map (λ f. (tree_of f.0, f.1.now)) r)) }
+    ensures found { IfOk result (λ r. option_map (λ f. (tree_of f.0, f.1.now)) r ≡ expr_at depth names.old.names least tokens.now) }
     ensures kept { kept names.new ≡ kept names.old }
 {
     match read_at(alloc, depth, names, Ask::Expr(least), tokens)? {

@@ -23,8 +23,8 @@ use std::alloc::{AllocError, Global};
 /// A reader of trees that are at most so deep, by a function that reads what it is asked for.
 #[derive(Drop)]
 pub struct Reader<F> {
-    depth: u32,
-    read: F,
+    pub depth: u32,
+    pub read: F,
 }
 
 // An expression, where one was asked for.
@@ -50,7 +50,7 @@ pub fn as_typing(answer: Answer) -> TypeName
 }
 
 // A specifier, where one was asked for.
-fn as_specifier(answer: Answer) -> Specifier
+pub fn as_specifier(answer: Answer) -> Specifier
     requires { (purpose : _) × (before : _) × Suits (ask.Specifier purpose before) answer }
     ensures { specifier_tree result ≡ answer_tree answer }
 {
@@ -61,7 +61,7 @@ fn as_specifier(answer: Answer) -> Specifier
 }
 
 // A declarator, where one was asked for.
-fn as_declarator(answer: Answer) -> Declarator
+pub fn as_declarator(answer: Answer) -> Declarator
     requires { (purpose : _) × (before : _) × Suits (ask.Declarator purpose before) answer }
     ensures { declarator_tree result ≡ answer_tree answer }
 {

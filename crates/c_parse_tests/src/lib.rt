@@ -1,5 +1,9 @@
-//! Tests of the parsers, in a crate of their own so that these are proved once.
+//! Tests of the trees and of their parser, in a crate of their own so that these are proved once.
 #![tactic(auto)]
 
 #[cfg(test)]
+mod declaring;
+#[cfg(test)]
 mod tests;
+#[cfg(test)]
+mod trees;

@@ -7,7 +7,7 @@ use c_tree::tree::{Expr, Operand, PostfixPart};
 use std::alloc::{AllocError, Global};
 use std::test::Fail;
 
-fn add_name(out: &mut String, name: &Name) -> Result<(), AllocError> {
+pub fn add_name(out: &mut String, name: &Name) -> Result<(), AllocError> {
     for byte in name.as_bytes() {
         out.push(char::from(*byte))?;
     }
@@ -180,7 +180,7 @@ fn add_expr(alloc: Global, out: &mut String, expr: &Expr) -> Result<(), AllocErr
 }
 
 // `T` is a typedef name.
-fn names(alloc: Global) -> Result<TypeNames, AllocError> {
+pub fn names(alloc: Global) -> Result<TypeNames, AllocError> {
     let mut names = TypeNames::new(alloc);
     names.declare(Name::from_bytes(alloc, b"T")?, true)?;
     Ok(names)
@@ -205,9 +205,9 @@ fn shown(alloc: Global, source: &[u8], names: &TypeNames) -> Result<String, Allo
 }
 
 /// A source, and how it groups.
-struct Case {
-    source: &'static [u8],
-    wanted: &'static str,
+pub struct Case {
+    pub source: &'static [u8],
+    pub wanted: &'static str,
 }
 
 // What groups otherwise than wanted.

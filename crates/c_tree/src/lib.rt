@@ -6,8 +6,6 @@ mod copies;
 mod depth;
 pub mod operator;
 mod plain_words;
-#[cfg(test)]
-mod tests;
 pub mod tree;
 mod type_words;
 mod words;

@@ -16,12 +16,13 @@ use Rattle.c_tree.specs.declared.tree.Pointer.{Pointer}
 use Rattle.c_tree.specs.Spelling.{Piece, sign, pieces, pieces_of_all, pieces_with_commas, pieces_of_pointers, word_of_prefix, mark_of_assignment}
 use Rattle.c_tree.specs.Trees.{Tree, Name, Integer, Floating, Character, Text, Parenthesised, Postfix, Prefix, OfType, Offsetof, Cast, Run, Conditional, Assignment, Comma, TypeName, Key, Typedef, Attribute, CompositeTag, Composite, EnumTag, Enum, Declarator, Absent, Declared, Group, Array, Function, Trees, Nil, Next}
 use Rattle.c_tree.specs.WellFormed.{Names, Before, Untyped, Typed, Braced, Purpose, ForType, ForParameter, ForName, IsExpr, IsTypeName, IsParameter, IsSpecifier, AreSpecifiers, IsDeclarator, IsCore, IsSuffix, AreSuffixes, begins_typedef, is_typedef, after, place_of, place_of_declarator, first_place, may_specify, is_qualifier, is_type_word, is_storage_word, before_next}
+use Rattle.c_parse_expr.specs.Declaring.{starts, goes_on_specifiers, begins_suffix}
 use Rattle.c_parse_expr.specs.Found.{Fronts}
 use Rattle.c_parse_expr.specs.Laws.{begins_expr}
 use Rattle.c_parse_expr.specs.Tokens.{is_key, is_mark, specifies, begins_type, is_type_at}
 use Rattle.c_parse_expr.specs.TypeRules.{first_span}
-use Rattle.c_parse_expr.proofs.types.Words.{Fit, fit_first, fit_split, starts, begins, begins_joined, starts_with, shorter}
-use Rattle.c_parse_expr.proofs.types.Laws.{goes_on_specifier, goes_on_specifiers, begins_suffix}
+use Rattle.c_parse_expr.proofs.types.Words.{Fit, fit_first, fit_split, begins, begins_joined, starts_with, shorter}
+use Rattle.c_parse_expr.proofs.types.Laws.{goes_on_specifier}
 
 -- ---- expressions
 

@@ -14,15 +14,16 @@ use Rattle.c_tree.specs.Spelling.{sign, pieces, pieces_of_all, pieces_of_pointer
 use Rattle.c_tree.specs.Trees.{Tree, Declarator, Absent, Declared, Group, Array, Function, Trees, Nil, Next}
 use Rattle.c_tree.specs.Views.{listed}
 use Rattle.c_tree.specs.WellFormed.{Names, after, Purpose, ForType, ForParameter, ForName, Before, Untyped, Typed, Braced, AreSuffixes, IsSuffix, IsCore, IsGroup, IsDeclarator, is_typedef}
+use Rattle.c_parse_expr.specs.Declaring.{starts, goes_on_pointers, begins_suffix, goes_on_nameless, goes_on_declarator}
 use Rattle.c_parse_expr.specs.Laws.{ExprsSound, ExprsReached, TypingsSound, TypingsReached}
 use Rattle.c_parse_expr.specs.Rules.{Found, Inner}
 use Rattle.c_parse_expr.specs.Tokens.{behind_mark, is_mark, begins_type, is_type_at}
 use Rattle.c_parse_expr.specs.TypeRules.{Specifiers, Declarators, Typings, suffixes, group_at, is_close_at, begins_parameters, may_declare, core_of, core_at, core_or_none, declarator_behind, declarator_rule, first_span, pointers}
 use Rattle.c_parse_expr.proofs.types.Begins.{suffix_begins, parameter_begins, declarator_begins, declarator_words, declarator_place, begins_declarator}
-use Rattle.c_parse_expr.proofs.types.Laws.{DeclaratorsReached, begins_suffix, goes_on_nameless, goes_on_declarator}
-use Rattle.c_parse_expr.proofs.types.Parts.{goes_on_pointers, pointers_reach}
+use Rattle.c_parse_expr.proofs.types.Laws.{DeclaratorsReached}
+use Rattle.c_parse_expr.proofs.types.Parts.{pointers_reach}
 use Rattle.c_parse_expr.proofs.types.SuffixesReach.{plain_list, listed_plain, suffixes_reach}
-use Rattle.c_parse_expr.proofs.types.Words.{Fit, fit_split, fit_first, fit_next, fit_absurd, last_mark, is_name, starts, begins_joined, starts_as, starts_with, starts_not, starts_neither, shorter}
+use Rattle.c_parse_expr.proofs.types.Words.{Fit, fit_split, fit_first, fit_next, fit_absurd, last_mark, is_name, begins_joined, starts_as, starts_with, starts_not, starts_neither, shorter}
 
 -- ---- what does not go on
 

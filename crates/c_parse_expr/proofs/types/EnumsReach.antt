@@ -11,6 +11,7 @@ use Rattle.c_tree.specs.Spelling.{Piece, at, plain, sign, pieces, pieces_of_tag,
 use Rattle.c_tree.specs.Trees.{Tree, EnumTag, Enum, Enumerator, Trees, Nil, Next}
 use Rattle.c_tree.specs.Views.{listed}
 use Rattle.c_tree.specs.WellFormed.{Names, after, AreThere, AreEnumerators, IsEnumerator}
+use Rattle.c_parse_expr.specs.Declaring.{starts}
 use Rattle.c_parse_expr.specs.Laws.{ExprsSound, ExprsReached, binding}
 use Rattle.c_parse_expr.specs.Rules.{Found, Inner}
 use Rattle.c_parse_expr.specs.Tokens.{behind_mark, is_mark, name_at}
@@ -19,7 +20,7 @@ use Rattle.c_parse_expr.proofs.types.EnumsSound.{enumerators_loop}
 use Rattle.c_parse_expr.proofs.types.Loops.{Reads, loop_reach}
 use Rattle.c_parse_expr.proofs.types.SuffixesReach.{plain_list, listed_plain, not_going_on, expr_exact, commas_start}
 use Rattle.c_parse_expr.proofs.types.SuffixesSound.{behind_comma}
-use Rattle.c_parse_expr.proofs.types.Words.{Fit, fit_join, fit_split, fit_first, fit_next, fit_absurd, fit_piece, take_mark, take_name, last_mark, last_name, is_name, starts, begins, starts_as, starts_with, starts_not, shorter, mark_none, name_none}
+use Rattle.c_parse_expr.proofs.types.Words.{Fit, fit_join, fit_split, fit_first, fit_next, fit_absurd, fit_piece, take_mark, take_name, last_mark, last_name, is_name, begins, starts_as, starts_with, starts_not, shorter, mark_none, name_none}
 
 -- a placed piece is its word, at the place of its token
 pub fit_plain : {span : Span} {w : Word} {more : List Piece} {tokens rest : List Token} → Fit (at span w ∷ more) tokens rest → Fit (plain w ∷ more) tokens rest

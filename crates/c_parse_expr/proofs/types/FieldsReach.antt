@@ -13,18 +13,19 @@ use Rattle.c_tree.specs.Nesting.{nest, nest_all}
 use Rattle.c_tree.specs.Spelling.{pieces, pieces_behind, pieces_of_attributes, pieces_with_commas}
 use Rattle.c_tree.specs.Trees.{Tree, Field, Padding, Trees, Nil, Next}
 use Rattle.c_tree.specs.WellFormed.{Names, after, Purpose, ForType, ForParameter, ForName, Before, Untyped, Typed, Braced, IsDeclarator, IsDeclarable, IsOptional, AreFields, IsField, AreAttributes, is_typedef}
+use Rattle.c_parse_expr.specs.Declaring.{starts, goes_on_specifiers, begins_suffix}
 use Rattle.c_parse_expr.specs.Laws.{ExprsSound, ExprsReached, binding}
 use Rattle.c_parse_expr.specs.Rules.{Found, Several, Inner}
 use Rattle.c_parse_expr.specs.Tokens.{behind_mark, is_key, is_mark}
 use Rattle.c_parse_expr.specs.TypeRules.{Specifiers, Declarators, Typings, first_span, is_untyped, attributes_at, width_of, named_field_at, padding_at, field_at, fields, fields_with}
 use Rattle.c_parse_expr.proofs.types.Begins.{BeginsName, declarator_begins, declarator_words, declarator_place, begins_declarator}
-use Rattle.c_parse_expr.proofs.types.Laws.{SpecifiersSound, DeclaratorsSound, DeclaratorsReached, goes_on_specifiers, begins_suffix}
+use Rattle.c_parse_expr.proofs.types.Laws.{SpecifiersSound, DeclaratorsSound, DeclaratorsReached}
 use Rattle.c_parse_expr.proofs.types.Loops.{Reads, loop_reach}
 use Rattle.c_parse_expr.proofs.types.MembersSound.{fields_loop}
 use Rattle.c_parse_expr.proofs.types.Parts.{attributes_reach, mark_own}
 use Rattle.c_parse_expr.proofs.types.SuffixesReach.{none_of, differ, plain_list, not_going_on, expr_exact, commas_start}
 use Rattle.c_parse_expr.proofs.types.SuffixesSound.{behind_comma}
-use Rattle.c_parse_expr.proofs.types.Words.{Fit, fit_split, fit_first, fit_next, fit_absurd, take_mark, starts, begins, begins_joined, begins_also, starts_as, starts_with, starts_not, starts_also, shorter, mark_none}
+use Rattle.c_parse_expr.proofs.types.Words.{Fit, fit_split, fit_first, fit_next, fit_absurd, take_mark, begins, begins_joined, begins_also, starts_as, starts_with, starts_not, starts_also, shorter, mark_none}
 
 -- ---- declarators begin with no specifier
 

@@ -13,18 +13,19 @@ use Rattle.c_tree.specs.Spelling.{sign, pieces, pieces_of_all, pieces_with_comma
 use Rattle.c_tree.specs.Trees.{Tree, Fields, Assertion, Trees, Nil, Next}
 use Rattle.c_tree.specs.Views.{listed}
 use Rattle.c_tree.specs.WellFormed.{Names, after, after_all, Purpose, ForName, Before, Untyped, before_next, before_end, AreSpecifiers, AreMembers, IsMember, IsOptional, first_place}
+use Rattle.c_parse_expr.specs.Declaring.{starts, goes_on_specifiers}
 use Rattle.c_parse_expr.specs.Laws.{ExprsSound, ExprsReached, binding}
 use Rattle.c_parse_expr.specs.Rules.{Found, Inner, literals}
 use Rattle.c_parse_expr.specs.Tokens.{behind_mark, is_key, is_mark, literal_at, begins_type}
 use Rattle.c_parse_expr.specs.TypeRules.{Specifiers, Declarators, Typings, first_span, field_at, fields_with, specifiers as specifier_rounds, specifiers_at, fields_at, assertion_at, member_at, members}
 use Rattle.c_parse_expr.proofs.types.Begins.{specifier_goes_on, specifier_next, goes_on_last, specifiers_type, specifiers_place}
 use Rattle.c_parse_expr.proofs.types.FieldsReach.{fields_reach, fields_end}
-use Rattle.c_parse_expr.proofs.types.Laws.{SpecifiersSound, SpecifiersReached, DeclaratorsSound, DeclaratorsReached, goes_on_specifier, goes_on_specifiers}
+use Rattle.c_parse_expr.proofs.types.Laws.{SpecifiersSound, SpecifiersReached, DeclaratorsSound, DeclaratorsReached, goes_on_specifier}
 use Rattle.c_parse_expr.proofs.types.Loops.{Reads, loop_reach}
 use Rattle.c_parse_expr.proofs.types.MembersSound.{State, next_state, read_at, specifiers_loop, members_loop}
 use Rattle.c_parse_expr.proofs.types.Parts.{key_own, literals_reach}
 use Rattle.c_parse_expr.proofs.types.SuffixesReach.{none_of, differ, plain_list, listed_plain, not_going_on, expr_exact}
-use Rattle.c_parse_expr.proofs.types.Words.{Fit, fit_split, fit_first, fit_next, fit_absurd, take_mark, take_literal, last_mark, is_literal, starts, begins, begins_also, starts_as, starts_with, starts_neither, begins_joined, shorter}
+use Rattle.c_parse_expr.proofs.types.Words.{Fit, fit_split, fit_first, fit_next, fit_absurd, take_mark, take_literal, last_mark, is_literal, begins, begins_also, starts_as, starts_with, starts_neither, begins_joined, shorter}
 
 -- what begins with a specifier goes on with none before it
 next_not : (purpose : Purpose) (names : Names) (before : Before) (t : Tree) (more : Trees) (rest_names : Names) (rest_before : Before) {tokens rest : List Token} →

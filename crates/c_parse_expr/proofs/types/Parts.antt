@@ -21,11 +21,12 @@ use Rattle.c_tree.specs.declared.tree.Qualifier.{Qualifier}
 use Rattle.c_tree.specs.declared.tree.Qualifier.TheVariants as qualifier
 use Rattle.c_tree.specs.Spelling.{Piece, plain, sign, pieces_of_literals, pieces_of_words, pieces_of_attribute, pieces_of_attributes, pieces_of_keywords, pieces_of_qualifier, pieces_of_qualifiers, pieces_of_pointer, pieces_of_pointers}
 use Rattle.c_tree.specs.WellFormed.{balances, IsAttribute, AreAttributes, is_qualifier, IsQualifier, IsPointer, is_array_word}
+use Rattle.c_parse_expr.specs.Declaring.{starts, begins_qualifier, goes_on_pointers}
 use Rattle.c_parse_expr.specs.Tokens.{is_key, is_mark, behind_mark, literal_at}
 use Rattle.c_parse_expr.specs.Rules.{literals_with, literals}
 use Rattle.c_parse_expr.specs.TypeRules.{with_word, balanced_with, balanced, attribute_behind, attribute_at, attributes_with, attributes, attributes_at, keyword_of, keyword_at, keywords_with, array_words, qualifier_or, qualifier_at, qualifiers_with, qualifiers, pointer_of, pointer_at, pointers_with, pointers}
 use Rattle.c_parse_expr.proofs.exprs.Fronts.{first_found}
-use Rattle.c_parse_expr.proofs.types.Words.{bound, Fit, fit_none, fit_join, fit_split, fit_first, fit_next, fit_absurd, fit_piece, fit_mark, fit_literal, take_mark, take_literal, starts, begins, starts_as, starts_with, starts_not, starts_neither, shorter, is_literal, literal_none}
+use Rattle.c_parse_expr.proofs.types.Words.{bound, Fit, fit_none, fit_join, fit_split, fit_first, fit_next, fit_absurd, fit_piece, fit_mark, fit_literal, take_mark, take_literal, begins, starts_as, starts_with, starts_not, starts_neither, shorter, is_literal, literal_none}
 use Rattle.c_parse_expr.proofs.types.Loops.{loop, loop_with, loop_sound, Reads, loop_reach}
 
 -- ---- words in parentheses
@@ -318,11 +319,6 @@ array_words_reach n all tokens rest enough ok h end =
 -- ---- qualifiers and pointers
 
 -- a word that begins a qualifier
-abbrev pub begins_qualifier : Word → Bool
-begins_qualifier (word.Keyword key.Attribute) = true
-begins_qualifier (word.Keyword k) = is_qualifier k
-begins_qualifier _ = false
-
 no_qualifier : (w : Word) → begins_qualifier w ≡ false → (is_keyword is_qualifier w ≡ false) × (is_key key.Attribute w ≡ false)
 no_qualifier (word.Keyword key.Attribute) e = absurd (cc)
 no_qualifier (word.Keyword k) e = (e, refl)
@@ -469,11 +465,6 @@ pointers_sound n tokens =
     n [] (tt {0}) tokens in
     let found : PointersFound tokens (plain_loop Pointer pointer_at n [] tokens).0 (plain_loop Pointer pointer_at n [] tokens).1 = rw r.same r.holds in
     rw (pointers_loop n [] tokens) found
-
--- a word that goes on with pointers
-abbrev pub goes_on_pointers : Word → Bool
-goes_on_pointers (word.Punctuator mark.Star) = true
-goes_on_pointers w = begins_qualifier w
 
 no_pointer : (w : Word) → goes_on_pointers w ≡ false → (is_mark mark.Star w ≡ false) × (begins_qualifier w ≡ false)
 no_pointer (word.Punctuator mark.Star) e = absurd (cc)

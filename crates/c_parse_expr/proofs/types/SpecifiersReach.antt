@@ -16,6 +16,7 @@ use Rattle.c_tree.specs.Spelling.{Piece, at, plain, sign, pieces_of_all, pieces_
 use Rattle.c_tree.specs.Trees.{Tree, Key, Typedef, Attribute, CompositeTag, Composite, EnumTag, Enum, Trees}
 use Rattle.c_tree.specs.Views.{listed}
 use Rattle.c_tree.specs.WellFormed.{Names, Purpose, Before, Untyped, Typed, Braced, AreMembers, AreAttributes, IsUntyped, IsUnbraced, may_specify, is_typedef}
+use Rattle.c_parse_expr.specs.Declaring.{starts}
 use Rattle.c_parse_expr.specs.Laws.{ExprsSound, ExprsReached}
 use Rattle.c_parse_expr.specs.Rules.{Found, Inner}
 use Rattle.c_parse_expr.specs.Tokens.{behind_mark, is_key, is_mark, name_at}
@@ -26,7 +27,7 @@ use Rattle.c_parse_expr.proofs.types.Laws.{SpecifiersSound, SpecifiersReached, D
 use Rattle.c_parse_expr.proofs.types.MembersReach.{members_reach}
 use Rattle.c_parse_expr.proofs.types.Parts.{pieces_inside, behind_reach, attributes_reach}
 use Rattle.c_parse_expr.proofs.types.SuffixesReach.{plain_list, listed_plain}
-use Rattle.c_parse_expr.proofs.types.Words.{Fit, fit_split, fit_first, fit_next, fit_absurd, take_mark, last_name, is_name, starts, starts_as, starts_with, starts_not, mark_none, name_none}
+use Rattle.c_parse_expr.proofs.types.Words.{Fit, fit_split, fit_first, fit_next, fit_absurd, take_mark, last_name, is_name, starts_as, starts_with, starts_not, mark_none, name_none}
 
 module _ (depth : ℕ) (inner : Inner) (typings : Typings) (specifiers : Specifiers) (declarators : Declarators) (inner_sound : ExprsSound depth inner)
     (inner_reached : ExprsReached depth inner)

@@ -14,16 +14,16 @@ use Rattle.c_tree.specs.Spelling.{Piece, sign, pieces, pieces_of_all, pieces_of_
 use Rattle.c_tree.specs.Trees.{Tree, Array, Function, Trees, Nil, Next}
 use Rattle.c_tree.specs.Views.{listed}
 use Rattle.c_tree.specs.WellFormed.{Names, after, after_parameter, ForParameter, ForName, IsOptional, IsParameter, AreParameters, AreSuffixes, IsSuffix, is_array_word}
+use Rattle.c_parse_expr.specs.Declaring.{starts, begins_suffix}
 use Rattle.c_parse_expr.specs.Laws.{ExprsSound, ExprsReached, TypingsSound, TypingsReached, Reached, goes_on, binding, begins_expr, ends_type, is_type_end}
 use Rattle.c_parse_expr.specs.Rules.{Found, Inner}
 use Rattle.c_parse_expr.specs.Tokens.{behind_mark, is_mark, begins_type}
 use Rattle.c_parse_expr.specs.TypeRules.{Specifiers, Declarators, Typings, array_words, bound_of, array_of, parameters, ellipsis_at, function_end, function_with, suffix_of, suffix_at, suffixes}
 use Rattle.c_parse_expr.proofs.types.Begins.{expr_begins, parameter_begins, suffix_begins}
-use Rattle.c_parse_expr.proofs.types.Laws.{begins_suffix}
 use Rattle.c_parse_expr.proofs.types.Loops.{Reads, loop_reach}
 use Rattle.c_parse_expr.proofs.types.Parts.{is_keyword, array_words_reach}
 use Rattle.c_parse_expr.proofs.types.SuffixesSound.{behind_comma, parameters_loop, suffixes_loop}
-use Rattle.c_parse_expr.proofs.types.Words.{Fit, Parted, fit_join, fit_split, fit_first, fit_next, fit_absurd, take_mark, last_mark, starts, starts_as, starts_with, starts_not, shorter, mark_none}
+use Rattle.c_parse_expr.proofs.types.Words.{Fit, Parted, fit_join, fit_split, fit_first, fit_next, fit_absurd, take_mark, last_mark, starts_as, starts_with, starts_not, shorter, mark_none}
 
 -- ---- what is not found, and what is found exactly
 

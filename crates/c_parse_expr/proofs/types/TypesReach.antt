@@ -13,17 +13,18 @@ use Rattle.c_tree.specs.Spelling.{pieces, pieces_of_all}
 use Rattle.c_tree.specs.Trees.{Tree, TypeName, Trees, Nil, Next}
 use Rattle.c_tree.specs.Views.{listed}
 use Rattle.c_tree.specs.WellFormed.{Names, after_all, Purpose, ForType, ForParameter, ForName, Before, Untyped, before_end, AreSpecifiers, IsOptionalDeclarator, first_place}
+use Rattle.c_parse_expr.specs.Declaring.{starts, goes_on_specifiers, goes_on_declarator}
 use Rattle.c_parse_expr.specs.Laws.{ExprsSound, ExprsReached, TypingsReached, is_type_end, ends_type}
 use Rattle.c_parse_expr.specs.Rules.{Found, Inner}
 use Rattle.c_parse_expr.specs.TypeRules.{Specifiers, Declarators, Typings, first_span, specifiers_at, specifier_rule, measured, type_rule}
 use Rattle.c_parse_expr.proofs.types.Begins.{specifiers_place, begins_declarator}
 use Rattle.c_parse_expr.proofs.types.FieldsReach.{declarator_ends, declarator_none}
-use Rattle.c_parse_expr.proofs.types.Laws.{SpecifiersSound, SpecifiersReached, DeclaratorsSound, DeclaratorsReached, goes_on_specifiers, goes_on_declarator}
+use Rattle.c_parse_expr.proofs.types.Laws.{SpecifiersSound, SpecifiersReached, DeclaratorsSound, DeclaratorsReached}
 use Rattle.c_parse_expr.proofs.types.MembersReach.{specifiers_reach}
 use Rattle.c_parse_expr.proofs.types.SpecifiersReach.{specifier_rule_reached}
 use Rattle.c_parse_expr.proofs.types.SpecifiersSound.{specifier_rule_sound}
 use Rattle.c_parse_expr.proofs.types.SuffixesReach.{plain_list, listed_plain}
-use Rattle.c_parse_expr.proofs.types.Words.{Fit, fit_split, starts, starts_not}
+use Rattle.c_parse_expr.proofs.types.Words.{Fit, fit_split, starts_not}
 
 -- ---- what stands behind a type name
 

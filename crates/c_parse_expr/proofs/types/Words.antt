@@ -7,6 +7,7 @@ use Rattle.c_prog.specs.declared.token.Token.{Token}
 use Rattle.c_prog.specs.declared.token.Word.{Word}
 use Rattle.c_prog.specs.declared.token.Word.TheVariants as word
 use Rattle.c_tree.specs.Spelling.{Piece, at, plain, sign}
+use Rattle.c_parse_expr.specs.Declaring.{starts}
 use Rattle.c_parse_expr.specs.Found.{IsPiece, Fronts}
 use Rattle.c_parse_expr.specs.Tokens.{◌>>=◌, is_mark, behind_mark, text_of, name_at, bytes_of, literal_at}
 use Rattle.c_parse_expr.proofs.exprs.Fronts.{fronts_split, fronts_join, fronts_less, mark_read, mark_found, mark_missing, name_read, name_found, literal_read, literal_found}
@@ -100,10 +101,6 @@ take_literal bytes {more} {tokens} {rest} h =
     let r = literal_read bytes more tokens rest h.is in record { left = r.left; is = r.is; back = record { is = r.back }; less = r.less }
 
 -- ---- first words
-
-abbrev pub starts : (Word → Bool) → List Token → Bool
-starts is [] = false
-starts is (t ∷ tokens) = is t.word
 
 abbrev pub begins : (Word → Bool) → List Piece → Bool
 begins is [] = false

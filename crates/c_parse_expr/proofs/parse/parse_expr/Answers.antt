@@ -14,3 +14,8 @@ returns-in-Some-clause-parsed c =
     let r = rw (c.in-Some.is, take_rest c.args.tokens.now c.args.start) at c.in_ok-expr.ensures.read in
     parsed_to c.args.names.now.names 0 200 c.args.start c.args.tokens.now (tree_of c.in-Some.expr) c.in-Some.rest.now c.requires
     (rw (← c.in_ok-known.ensures) r.0)
+
+pub returns-clause-none : goal.returns-clause-none
+returns-clause-none c = λ at e.
+    let r = rw (c.in-None.is, take_rest c.args.tokens.now c.args.start) at c.in_ok-expr.ensures.read in
+    rw (← c.in_ok-known.ensures) r.0

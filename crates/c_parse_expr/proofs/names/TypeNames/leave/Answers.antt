@@ -1,5 +1,10 @@
-use Rattle.c_parse_expr.proofs.code.NewestFirst.{older}
+use Rattle.std.proofs.Common.{◌∙◌}
+use Rattle.c_parse_expr.proofs.code.Newest.{one_fewer}
 use Rattle.c_parse_expr.proofs.names.TypeNames.leave.Goals as goal
 
-pub returns-clause-names : goal.returns-clause-names
-returns-clause-names c = rw (c.truncate.ensures.items, ← c.self.view_is) (older c.self.inside.uses.items c.self.inside.floor)
+pub loop-preserved : goal.loop-preserved
+loop-preserved c = (
+  one_fewer c.args.self.now.names _ _ c.loop.counter c.forget_newest.ensures.names c.loop.invariant.0,
+  c.forget_newest.ensures.floor ∙ c.loop.invariant.1,
+  c.loop.invariant.2,
+)

@@ -1,10 +1,10 @@
 //! The tree of `f(a, "x" "y")[1] + (char *)c`, its words and its depth, counted by hand.
 
-use crate::operator::BinaryOperator;
-use crate::tree::{Core, Declarator, Expr, Operand, Pointer, PostfixPart, Specifier, TypeName};
 use c_prog::name::Name;
 use c_prog::number::Span;
 use c_prog::token::{IntegerConstant, Keyword, Length, Radix};
+use c_tree::operator::BinaryOperator;
+use c_tree::tree::{Core, Declarator, Expr, Operand, Pointer, PostfixPart, Specifier, TypeName};
 use sqlite_items::{Boxed, Items};
 use std::alloc::{AllocError, Global};
 use std::test::Fail;
