@@ -5,7 +5,4 @@ pub mod Layouts
 pub mod Memories
 pub mod Rows
 pub mod Syntax
-pub mod Source
-pub mod SourceViews
-pub mod Meaning
 pub mod KindSets

@@ -2,9 +2,9 @@
 use Rattle.std.proofs.Common.{◌≡◌, ◌≢◌, ◌↔◌, ℕ, suc, ◌<◌, Bool, true, false, IsTrue, List, [], ◌∷◌, ◌++◌, length, get_or, map, Option, None, Some, refl, sym, ◌∙◌, ap, inl, inr, arith}
 use Rattle.c_prog.specs.declared.number.Span.{Span}
 use Rattle.c_prog.specs.declared.token.Token.{Token}
-use Rattle.c_prog.specs.Source.{Program}
-use Rattle.c_prog.specs.SourceViews.{IsShaped}
-use Rattle.c_prog.specs.Meaning.{meaning_of}
+use Rattle.first_program.specs.Source.{Program}
+use Rattle.first_program.specs.SourceViews.{IsShaped}
+use Rattle.first_program.specs.Meaning.{meaning_of}
 use Rattle.c_lex.specs.Lexing.{AreAnswered}
 use Rattle.first_analysis.specs.declared.place.Place.{Place}
 use Rattle.first_analysis.specs.Tables.{IsAnalysis}

@@ -10,9 +10,9 @@ use Rattle.c_prog.specs.declared.number.Span.{Span}
 use Rattle.c_prog.specs.Layouts.{Layout}
 use Rattle.c_prog.specs.Memories.{Memory, born}
 use Rattle.c_prog.specs.Syntax.{is_shown, numbers_from, Stmts, Done}
-use Rattle.c_prog.specs.Source.{Program, count_all}
-use Rattle.c_prog.specs.SourceViews.{IsShaped}
-use Rattle.c_prog.specs.Meaning.{meaning_of, stmts_of}
+use Rattle.first_program.specs.Source.{Program, count_all}
+use Rattle.first_program.specs.SourceViews.{IsShaped}
+use Rattle.first_program.specs.Meaning.{meaning_of, stmts_of}
 use Rattle.c_mean.specs.Evaluation.{Env}
 use Rattle.c_mean.specs.Machine.{Work, Brace, Close, Frame, State, Exit, queued, sites_of, exit_of}
 use Rattle.c_mean.proofs.Runs.{Good, good_run}

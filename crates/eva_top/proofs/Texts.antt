@@ -3,8 +3,8 @@ use Rattle.std.proofs.Common.{◌≡◌, ◌≢◌, ◌↔◌, Bool, true, false
 use Rattle.std.specs.Prelude.{slice_get, not}
 use Rattle.c_prog.specs.declared.number.Span.{Span}
 use Rattle.c_prog.specs.Syntax.{base_at}
-use Rattle.c_prog.specs.Source.{Program}
-use Rattle.c_prog.specs.Meaning.{meaning_of, variable_base, main_name}
+use Rattle.first_program.specs.Source.{Program}
+use Rattle.first_program.specs.Meaning.{meaning_of, variable_base, main_name}
 use Rattle.first_analysis.specs.declared.content.Content.{Content}
 use Rattle.first_analysis.specs.declared.evaluation.Kinds.{Kinds}
 use Rattle.first_analysis.specs.declared.place.Place.{Place}

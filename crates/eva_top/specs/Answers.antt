@@ -4,8 +4,8 @@ use Rattle.std.specs.Fmt.{decimal}
 use lib.Chars.{codes}
 use Rattle.c_prog.specs.declared.number.Span.{Span}
 use Rattle.c_prog.specs.declared.token.Token.{Token}
-use Rattle.c_prog.specs.Source.{Program}
-use Rattle.c_prog.specs.Meaning.{meaning_of}
+use Rattle.first_program.specs.Source.{Program}
+use Rattle.first_program.specs.Meaning.{meaning_of}
 use Rattle.eva_io.specs.Outside.{Rose, HeldWhereTold, Appended, AppendedInPart}
 use Rattle.c_lex.specs.declared.fault.LexFault.{LexFault}
 use Rattle.c_lex.specs.declared.fault.LexFault.TheVariants.{BadByte as BadByteFault, OpenComment as OpenCommentFault, OpenString as OpenStringFault, BadNumber as BadNumberFault}

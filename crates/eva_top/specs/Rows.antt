@@ -3,8 +3,8 @@ use Rattle.std.specs.Prelude.{ℕ, zero, suc, ◌+◌, ◌++◌, map, Bool, true
 use Rattle.c_prog.specs.declared.kind.Kind.{Kind}
 use Rattle.c_prog.specs.declared.kind.Kind.TheVariants.{SignedOverflow, Initialization}
 use Rattle.c_prog.specs.declared.number.Span.{Span}
-use Rattle.c_prog.specs.Source.{Program}
-use Rattle.c_prog.specs.Meaning.{main_name}
+use Rattle.first_program.specs.Source.{Program}
+use Rattle.first_program.specs.Meaning.{main_name}
 use Rattle.c_prog.specs.Rows.{Numbers, Few, Many, Plain, Entry}
 use Rattle.first_analysis.specs.declared.content.Range.{Range}
 use Rattle.first_analysis.specs.declared.content.Content.{Content}

@@ -1,6 +1,6 @@
 ghost use Rattle.std.specs.Prelude.{◌≡◌, ◌≤◌, ◌++◌, ◌∷◌, [], ◌⊎◌, ℕ, List, length, map, string_bytes, IfOk, OnOk};
 ghost use Rattle.eva_io.specs.Outside.{Rose, Appended, AppendedInPart, HeldWhereTold, OnPutFailed};
-ghost use Rattle.c_prog.specs.SourceViews.{program_of, IsShaped};
+ghost use Rattle.first_program.specs.SourceViews.{program_of, IsShaped};
 ghost use Rattle.c_lex.specs.Lexing.{AreAnswered, IsRefusal};
 ghost use Rattle.eva_top.specs.Report.{line_end};
 ghost use Rattle.eva_top.specs.Answers.{Puts, PutsNote, memory_note, lex_text, limit_text, sort_name, status_of, IsRead, Answers, sunk, call_of, IsGood, IsReportOrMemory, IsReportOf};
@@ -12,7 +12,7 @@ use c_lex::LexFault;
 use c_prog::name::Name;
 use c_prog::number::Span;
 use c_prog::token::Token;
-use c_prog::tree::Program;
+use first_program::tree::Program;
 use eva_io::sink::{PutFault, Sink, write_whole};
 use eva_io::store::{LoadFault, Store};
 use std::alloc::{AllocError, Global};

@@ -1,7 +1,7 @@
 //! The text of a report: the rows at the statements, and the alarms.
 ghost use Rattle.std.specs.Prelude.{◌≡◌, ◌+◌, ◌-◌, ◌<◌, ◌≤◌, ◌^◌, ◌++◌, ℕ, suc, not, length, slice_get, Option, IfOk, OnOk, IsTrue, ◌↔◌, ◌≢◌, []};
-ghost use Rattle.c_prog.specs.Meaning.{meaning_of, main_name};
-ghost use Rattle.c_prog.specs.SourceViews.{program_of};
+ghost use Rattle.first_program.specs.Meaning.{meaning_of, main_name};
+ghost use Rattle.first_program.specs.SourceViews.{program_of};
 ghost use Rattle.eva_top.specs.Report.{stmt_head, entries_text, strings_text, stmts_text, report_text, alarms_text, is_clean};
 ghost use Rattle.eva_top.specs.Sound.{names_of};
 ghost use Rattle.eva_top.specs.Rows.{row_from, contents_of, content_or, strings_of, lines_from, alarms_from, place_alarms, report_of};
@@ -11,7 +11,7 @@ use crate::print::{
 };
 use c_prog::kind::Kind;
 use c_prog::number::{Span, StmtId};
-use c_prog::tree::Program;
+use first_program::tree::Program;
 use first_analysis::content::{Content, Range};
 use first_analysis::evaluation::Kinds;
 use first_analysis::place::Place;

@@ -2,12 +2,12 @@
 use Rattle.std.proofs.Common.{◌≡◌, ℕ, suc, ◌+◌, ◌<◌, List, [], ◌∷◌, Option, map, length, get_or, drop, refl, ap, ◌∙◌, arith}
 use Rattle.std.proofs.Math.Seq.{drop-cons}
 use Rattle.std.proofs.Math.Numerals.{add-one}
-use Rattle.c_prog.specs.declared.tree.Test.{Test}
-use Rattle.c_prog.specs.declared.tree.Arm.{Arm as CodeArm}
-use Rattle.c_prog.specs.declared.tree.Stmt.{Stmt as CodeStmt}
-use Rattle.c_prog.specs.declared.tree.Stmt.TheVariants as V
-use Rattle.c_prog.specs.Source.{Stmt, Nothing, count, count_all}
-use Rattle.c_prog.specs.SourceViews.{tree_of, trees_of, ladder}
+use Rattle.first_program.specs.Source.{Test}
+use Rattle.first_program.specs.declared.tree.Arm.{Arm as CodeArm}
+use Rattle.first_program.specs.declared.tree.Stmt.{Stmt as CodeStmt}
+use Rattle.first_program.specs.declared.tree.Stmt.TheVariants as V
+use Rattle.first_program.specs.Source.{Stmt, Nothing, count, count_all}
+use Rattle.first_program.specs.SourceViews.{tree_of, trees_of, ladder}
 use Rattle.first_analysis.specs.Tables.{arm_of, choice, last_of}
 use Rattle.first_analysis.proofs.Trees.{arm_is, tree-choice}
 

@@ -3,12 +3,12 @@ use Rattle.std.proofs.Common.{◌≡◌, ℕ, suc, true, false, List, [], ◌∷
 use Rattle.std.specs.Prelude.{MatchResult}
 use Rattle.std.proofs.Math.Seq.{take-append_seam, drop-append_seam}
 use Rattle.c_prog.specs.declared.kind.Kind.{Kind}
-use Rattle.c_prog.specs.declared.tree.Test.{Test}
+use Rattle.first_program.specs.Source.{Test}
 use Rattle.c_prog.specs.declared.tree.IntKind.TheVariants.{Int}
 use Rattle.c_prog.specs.Integers.{fits_kind}
 use Rattle.c_prog.specs.Syntax.{Expr}
-use Rattle.c_prog.specs.Source.{Stmt, Assign, Return, If, While, Block, Nothing, Stmts, Done, Next, count}
-use Rattle.c_prog.specs.Meaning.{sum_expr, test_expr}
+use Rattle.first_program.specs.Source.{Stmt, Assign, Return, If, While, Block, Nothing, Stmts, Done, Next, count}
+use Rattle.first_program.specs.Meaning.{sum_expr, test_expr}
 use Rattle.c_mean.specs.Evaluation.{Env, set, value, is_true}
 use Rattle.first_analysis.specs.Contents.{HoldsReached}
 use Rattle.first_analysis.specs.Flow.{Spot, Below, IsAssigned, IsBranch, Flow, FlowAll}

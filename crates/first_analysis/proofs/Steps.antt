@@ -7,11 +7,11 @@ use Rattle.std.proofs.Math.Numerals.{add-one}
 use Rattle.std.proofs.lemmas.List.{map-append, take-map, length-map}
 use Rattle.std.proofs.lemmas.Slice.{take-put_mid}
 use borrow.Rule.Slice.PartMut.{put_mid, same_len_mid}
-use Rattle.c_prog.specs.declared.tree.Arm.{Arm as CodeArm}
-use Rattle.c_prog.specs.declared.tree.Stmt.{Stmt as CodeStmt}
-use Rattle.c_prog.specs.declared.tree.Stmt.TheVariants as V
-use Rattle.c_prog.specs.Source.{Stmt, Nothing, count, count_all}
-use Rattle.c_prog.specs.SourceViews.{tree_of, trees_of}
+use Rattle.first_program.specs.declared.tree.Arm.{Arm as CodeArm}
+use Rattle.first_program.specs.declared.tree.Stmt.{Stmt as CodeStmt}
+use Rattle.first_program.specs.declared.tree.Stmt.TheVariants as V
+use Rattle.first_program.specs.Source.{Stmt, Nothing, count, count_all}
+use Rattle.first_program.specs.SourceViews.{test_tree, tree_of, trees_of}
 use Rattle.first_analysis.specs.declared.place.Place.{Place}
 use Rattle.first_analysis.specs.Contents.{HoldsReached}
 use Rattle.first_analysis.specs.Flow.{Flow, FlowAll}
@@ -55,12 +55,12 @@ module _ (arms : List CodeArm) (i : ℕ) (a : CodeArm) (h : i < length arms) (is
   arms_counted last = rw (arm_here, arm_is a, add-one) refl
 
   pub arms_flow : (last : Stmt) (seg rest : List PlaceSpot) (places : List Place) (row left other right after : Reached) → seg ≡ map spot_of places → length places ≡ suc (count (tree_of a.body)) →
-      ArmFlows a.test (tree_of a.body) places row left other → Flow Reached HoldsReached (choice (drop (i + 1) arms) last) rest other right → Rises left after → Rises right after →
+      ArmFlows (test_tree a.test) (tree_of a.body) places row left other → Flow Reached HoldsReached (choice (drop (i + 1) arms) last) rest other right → Rises left after → Rises right after →
       Flow Reached HoldsReached (choice (drop i arms) last) (seg ++ rest) row after
   arms_flow last seg rest places row left other right after same long f g l r =
       let many : length (map spot_of places) ≡ suc (count (tree_of a.body)) = length-map places spot_of ∙ long in
       rw (arm_here, arm_is a, same)
-      (arm_next a.test (tree_of a.body) (choice (drop (suc i) arms) last) (map spot_of places) rest row left other right after many f (rw add-one at g) l r)
+      (arm_next (test_tree a.test) (tree_of a.body) (choice (drop (suc i) arms) last) (map spot_of places) rest row left other right after many f (rw add-one at g) l r)
 
 pub ok_both : {X : Type 0} (r : Result X AllocError) (P Q R : X → Type 0) → ((x : X) → P x → Q x → R x) → IfOk r P → IfOk r Q → IfOk r R
 ok_both (Ok x) P Q R f p q = f x p q

@@ -1,18 +1,18 @@
 -- The trees of the code's statements, one level at a time.
 use Rattle.std.proofs.Common.{◌≡◌, List, Option, None, Some, sym, ap, ◌∙◌}
-use Rattle.c_prog.specs.declared.tree.Test.{Test}
-use Rattle.c_prog.specs.declared.tree.Arm.{Arm as CodeArm}
-use Rattle.c_prog.specs.declared.tree.Stmt.{Stmt as CodeStmt, Stmt-F}
-use Rattle.c_prog.specs.declared.tree.Stmt.TheVariants as V
-use Rattle.c_prog.specs.declared.tree.Stmt.TheFolds as F
-use Rattle.c_prog.specs.Source.{Stmt, While, Block, Nothing}
-use Rattle.c_prog.specs.SourceViews.{tree_of, trees_of, stmt_step, arm_step}
+use Rattle.first_program.specs.declared.tree.Test.{Test as CodeTest}
+use Rattle.first_program.specs.declared.tree.Arm.{Arm as CodeArm}
+use Rattle.first_program.specs.declared.tree.Stmt.{Stmt as CodeStmt, Stmt-F}
+use Rattle.first_program.specs.declared.tree.Stmt.TheVariants as V
+use Rattle.first_program.specs.declared.tree.Stmt.TheFolds as F
+use Rattle.first_program.specs.Source.{Test, Stmt, While, Block, Nothing}
+use Rattle.first_program.specs.SourceViews.{test_tree, tree_of, trees_of, stmt_step, arm_step}
 use Rattle.first_analysis.specs.Tables.{arm_of, choice, last_of}
 
-pub arm_is : (a : CodeArm) → arm_of a ≡ (a.test, tree_of a.body)
+pub arm_is : (a : CodeArm) → arm_of a ≡ (test_tree a.test, tree_of a.body)
 arm_is a = F.fold_out-Arm Stmt (Test × Stmt) stmt_step arm_step a
 
-pub tree-While : (test : Test) (body : CodeStmt) → tree_of (V.While test body) ≡ While test (tree_of body)
+pub tree-While : (test : CodeTest) (body : CodeStmt) → tree_of (V.While test body) ≡ While (test_tree test) (tree_of body)
 tree-While test body = ap tree_of (sym (V.rolls-While test body)) ∙ F.fold-roll-Stmt Stmt (Test × Stmt) stmt_step arm_step (Stmt-F.While test body)
 
 pub tree-Block : (stmts : List CodeStmt) → tree_of (V.Block stmts) ≡ Block (trees_of stmts)

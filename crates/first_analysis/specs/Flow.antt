@@ -4,8 +4,8 @@ use Rattle.c_prog.specs.declared.kind.Kind.{Kind}
 use Rattle.c_prog.specs.declared.tree.IntKind.TheVariants.{Int}
 use Rattle.c_prog.specs.Integers.{fits_kind}
 use Rattle.c_prog.specs.Syntax.{Expr}
-use Rattle.c_prog.specs.Source.{Stmt, Assign, Return, If, While, Block, Nothing, Stmts, Done, Next, count}
-use Rattle.c_prog.specs.Meaning.{sum_expr, test_expr}
+use Rattle.first_program.specs.Source.{Stmt, Assign, Return, If, While, Block, Nothing, Stmts, Done, Next, count}
+use Rattle.first_program.specs.Meaning.{sum_expr, test_expr}
 use Rattle.c_mean.specs.Evaluation.{Env, set, value, is_true}
 
 module _ (Row : Type 0) (Holds : Row → Env → Type 0) where

@@ -2,13 +2,13 @@
 use Rattle.std.specs.Prelude.{ℕ, ◌≡◌, true, false, cond, IsTrue, ℤ, Option, Result, Ok, Err, None, Some, List, [], ◌∷◌, ◌++◌, length, map}
 use Rattle.c_prog.specs.declared.kind.Kind.{Kind}
 use Rattle.c_prog.specs.Syntax.{Expr}
-use Rattle.c_prog.specs.declared.tree.Test.{Test}
-use Rattle.c_prog.specs.declared.tree.Arm.{Arm as CodeArm}
-use Rattle.c_prog.specs.declared.tree.Stmt.{Stmt as CodeStmt}
-use Rattle.c_prog.specs.declared.tree.Stmt.TheFolds.{fold-Arm}
-use Rattle.c_prog.specs.Source.{Stmt, Nothing, Stmts, Program, count_all}
-use Rattle.c_prog.specs.SourceViews.{tree_of, ladder, stmt_step, arm_step}
-use Rattle.c_prog.specs.Meaning.{test_expr}
+use Rattle.first_program.specs.Source.{Test}
+use Rattle.first_program.specs.declared.tree.Arm.{Arm as CodeArm}
+use Rattle.first_program.specs.declared.tree.Stmt.{Stmt as CodeStmt}
+use Rattle.first_program.specs.declared.tree.Stmt.TheFolds.{fold-Arm}
+use Rattle.first_program.specs.Source.{Stmt, Nothing, Stmts, Program, count_all}
+use Rattle.first_program.specs.SourceViews.{tree_of, ladder, stmt_step, arm_step}
+use Rattle.first_program.specs.Meaning.{test_expr}
 use Rattle.c_mean.specs.Evaluation.{Env, is_true}
 use Rattle.first_analysis.specs.declared.place.Place.{Place}
 use Rattle.first_analysis.specs.declared.place.Split.{Split}

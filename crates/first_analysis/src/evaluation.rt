@@ -1,9 +1,10 @@
 //! What sums and tests give.
-ghost use Rattle.std.specs.Prelude.{◌≡◌, ℤ, ◌≤ℤ◌, ◌+ℤ◌, ◌-ℤ◌, IsTrue, Bool, true, not, int_lt, ◌≢◌, Option, Result, IfOk};
+ghost use Rattle.std.specs.Prelude.{◌≡◌, ℤ, ◌≤ℤ◌, ◌+ℤ◌, ◌-ℤ◌, IsTrue, Bool, true, not, int_lt, ◌≢◌, Option, Result, Ok, IfOk, pos, map};
 ghost use Rattle.c_prog.specs.declared.kind.Kind.{Kind};
 ghost use Rattle.c_prog.specs.declared.tree.IntKind.TheVariants.{Int};
 ghost use Rattle.c_prog.specs.Operators.{arithmetic, computed};
-ghost use Rattle.c_prog.specs.Meaning.{atom_expr, sign_op, run_expr, sum_expr, relation_op, test_expr};
+ghost use Rattle.first_program.specs.Meaning.{sign_op, run_expr, sum_expr, relation_op, test_expr};
+ghost use Rattle.first_program.specs.SourceViews.{addends, addend_tree, sum_tree, test_tree};
 ghost use Rattle.c_prog.specs.Syntax.{Expr};
 ghost use Rattle.c_mean.specs.Evaluation.{Env, value, combined, content_value, is_true};
 ghost use Rattle.first_analysis.specs.Contents.{IsWithin, Holds, HoldsNumber, HoldsRow};
@@ -11,7 +12,8 @@ ghost use Rattle.first_analysis.specs.Values.{Gives, GivesTruth, has_kind, is_po
 
 use crate::content::{Content, INT, Range};
 use c_prog::number::BaseId;
-use c_prog::tree::{Addend, Atom, Rel, Sign, Sum, Test};
+use c_prog::tree::Rel;
+use first_program::tree::{Addend, Sign, Sum, Test};
 
 /// Why an expression of `int` variables, numbers, sums and comparisons may be undefined.
 #[derive(Clone, Copy, Debug, PartialEq, Eq)]
@@ -86,18 +88,16 @@ fn content_of(row: &[Content], base: BaseId) -> Content
     }
 }
 
-fn atom(row: &[Content], atom: Atom) -> Evaluated
-    ensures { (env : Env) → HoldsRow row.now env → Gives result (value env (atom_expr atom)) }
+// What a number gives.
+fn single(n: u32) -> Evaluated
+    ensures { Gives result (Ok (pos n)) }
 {
-    match atom {
-        Atom::Number(n) => Evaluated {
-            range: Some(Range {
-                low: n as i64,
-                high: n as i64,
-            }),
-            kinds: Kinds::none(),
-        },
-        Atom::Variable(base) => used(content_of(row, base)),
+    Evaluated {
+        range: Some(Range {
+            low: n as i64,
+            high: n as i64,
+        }),
+        kinds: Kinds::none(),
     }
 }
 
@@ -181,21 +181,31 @@ fn plus(left: Evaluated, sign: Sign, right: Evaluated) -> Evaluated
 }
 
 // What a run of additions and subtractions gives behind what stands before it.
+#[cycle(adding)]
 fn run(row: &[Content], start: Evaluated, more: &[Addend]) -> Evaluated
-    ensures { (env : Env) (left : Expr) → HoldsRow row.now env → Gives start (value env left) → Gives result (value env (run_expr left more.now)) }
+    ensures { (env : Env) (left : Expr) → HoldsRow row.now env → Gives start (value env left) → Gives result (value env (run_expr left (addends (map addend_tree more.now)))) }
 {
     let mut result = start;
     for addend in more {
-        result = plus(result, addend.sign, atom(row, addend.atom));
+        result = plus(result, addend.sign, sum(row, &addend.operand));
     }
     result
 }
 
 /// What a sum gives.
-pub fn sum(row: &[Content], sum: &Sum) -> Evaluated
-    ensures { (env : Env) → HoldsRow row.now env → Gives result (value env (sum_expr sum.now)) }
+#[cycle(adding)]
+pub fn sum(row: &[Content], tree: &Sum) -> Evaluated
+    ensures { (env : Env) → HoldsRow row.now env → Gives result (value env (sum_expr (sum_tree tree.now))) }
 {
-    run(row, atom(row, sum.first), sum.more.as_slice())
+    match tree {
+        Sum::Number(n) => single(*n),
+        Sum::Variable(base) => used(content_of(row, *base)),
+        Sum::Parenthesised(inner) => sum(row, inner.get()),
+        Sum::Run { first, more } => {
+            let start = sum(row, first.get());
+            run(row, start, more.as_slice())
+        }
+    }
 }
 
 fn may_be_equal(a: Range, b: Range) -> bool
@@ -282,8 +292,16 @@ fn related(left: Evaluated, relation: Rel, right: Evaluated) -> Tested
 }
 
 /// Which truths a test may have.
-pub fn test(row: &[Content], test: &Test) -> Tested
-    ensures { (env : Env) → HoldsRow row.now env → GivesTruth result (value env (test_expr test.now)) }
+#[cycle(testing)]
+pub fn test(row: &[Content], tree: &Test) -> Tested
+    ensures { (env : Env) → HoldsRow row.now env → GivesTruth result (value env (test_expr (test_tree tree.now))) }
 {
-    related(sum(row, &test.left), test.relation, sum(row, &test.right))
+    match tree {
+        Test::Compare {
+            left,
+            relation,
+            right,
+        } => related(sum(row, left), *relation, sum(row, right)),
+        Test::Parenthesised(inner) => test(row, inner.get()),
+    }
 }

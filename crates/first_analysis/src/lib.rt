@@ -2,15 +2,15 @@
 #![tactic(auto)]
 
 ghost use Rattle.std.specs.Prelude.{◌≡◌, ◌<◌, ◌+◌, suc, length, IfOk, OnOk};
-ghost use Rattle.c_prog.specs.Source.{count_all};
-ghost use Rattle.c_prog.specs.SourceViews.{trees_of, program_of};
+ghost use Rattle.first_program.specs.Source.{count_all};
+ghost use Rattle.first_program.specs.SourceViews.{trees_of, program_of};
 ghost use Rattle.first_analysis.specs.Tables.{IsTable, IsAnalysis};
 
 use crate::marks::marks_of;
 use crate::place::Place;
 use crate::row::{Reached, unwritten};
 use crate::statement::{count_list, statements};
-use c_prog::tree::{Program, Stmt};
+use first_program::tree::{Program, Stmt};
 use std::alloc::{AllocError, Global};
 
 pub mod content;

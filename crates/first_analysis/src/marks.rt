@@ -2,7 +2,7 @@
 ghost use Rattle.std.specs.Prelude.{◌≤ℤ◌, ◌≤◌, pos, length};
 
 use crate::content::INT;
-use c_prog::tree::{Arm, Atom, Stmt, Sum, Test};
+use first_program::tree::{Addend, Arm, Stmt, Sum, Test};
 use std::alloc::{AllocError, Global};
 
 // How many of the marks, which ascend, are below n.
@@ -59,24 +59,40 @@ fn add_number(marks: &mut Vec<i64>, n: i64) -> Result<(), AllocError>
     Ok(())
 }
 
-fn add_atom(marks: &mut Vec<i64>, atom: Atom) -> Result<(), AllocError> {
-    match atom {
-        Atom::Number(n) => add_number(marks, n as i64),
-        Atom::Variable(_) => Ok(()),
-    }
-}
-
-fn add_sum(marks: &mut Vec<i64>, sum: &Sum) -> Result<(), AllocError> {
-    add_atom(marks, sum.first)?;
-    for addend in sum.more.as_slice() {
-        add_atom(marks, addend.atom)?;
+#[cycle(numbering)]
+fn add_addends(marks: &mut Vec<i64>, addends: &[Addend]) -> Result<(), AllocError> {
+    for addend in addends {
+        add_sum(marks, &addend.operand)?;
     }
     Ok(())
 }
 
+#[cycle(numbering)]
+fn add_sum(marks: &mut Vec<i64>, sum: &Sum) -> Result<(), AllocError> {
+    match sum {
+        Sum::Number(n) => add_number(marks, *n as i64),
+        Sum::Variable(_) => Ok(()),
+        Sum::Parenthesised(inner) => add_sum(marks, inner.get()),
+        Sum::Run { first, more } => {
+            add_sum(marks, first.get())?;
+            add_addends(marks, more.as_slice())
+        }
+    }
+}
+
+#[cycle(comparing)]
 fn add_test(marks: &mut Vec<i64>, test: &Test) -> Result<(), AllocError> {
-    add_sum(marks, &test.left)?;
-    add_sum(marks, &test.right)
+    match test {
+        Test::Compare {
+            left,
+            relation: _,
+            right,
+        } => {
+            add_sum(marks, left)?;
+            add_sum(marks, right)
+        }
+        Test::Parenthesised(inner) => add_test(marks, inner.get()),
+    }
 }
 
 #[cycle(marking)]

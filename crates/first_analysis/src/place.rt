@@ -1,6 +1,7 @@
 //! What is kept at each numbered statement.
 ghost use Rattle.std.specs.Prelude.{◌≡◌, ℕ, ℤ, true, Bool, IsTrue, IfOk, OnOk};
-ghost use Rattle.c_prog.specs.Meaning.{sum_expr, test_expr};
+ghost use Rattle.first_program.specs.Meaning.{sum_expr, test_expr};
+ghost use Rattle.first_program.specs.SourceViews.{sum_tree, test_tree};
 ghost use Rattle.first_analysis.specs.Tables.{Reached, Rises, AlarmsAt, AssignsAt, BranchesAt, SplitsTo};
 ghost use Rattle.c_mean.specs.Evaluation.{value};
 ghost use Rattle.first_analysis.specs.Contents.{HoldsReached, HoldsRow};
@@ -9,7 +10,7 @@ use crate::content::Content;
 use crate::evaluation::{Kinds, sum, test};
 use crate::row::{Reached, assign, everything, includes, merge};
 use c_prog::number::BaseId;
-use c_prog::tree::{Sum, Test};
+use first_program::tree::{Sum, Test};
 use sqlite_items::Items;
 use std::alloc::{AllocError, Global};
 
@@ -137,8 +138,8 @@ impl Place {
         value: &Sum,
     ) -> Result<Reached, AllocError>
         ensures row { OnOk result (self.new.row ≡ self.old.row) }
-        ensures alarms { OnOk result (AlarmsAt self.new (sum_expr value.now)) }
-        ensures after { IfOk result (λ after. AssignsAt self.new target.0 (sum_expr value.now) after) }
+        ensures alarms { OnOk result (AlarmsAt self.new (sum_expr (sum_tree value.now))) }
+        ensures after { IfOk result (λ after. AssignsAt self.new target.0 (sum_expr (sum_tree value.now)) after) }
     {
         match &self.row {
             None => Ok(None),
@@ -154,7 +155,7 @@ impl Place {
     /// Evaluates what is returned, and keeps its alarms.
     pub fn give(&mut self, value: &Sum)
         ensures row { self.new.row ≡ self.old.row }
-        ensures alarms { AlarmsAt self.new (sum_expr value.now) }
+        ensures alarms { AlarmsAt self.new (sum_expr (sum_tree value.now)) }
     {
         if let Some(row) = &self.row {
             self.kinds = sum(row.as_slice(), value).kinds;
@@ -164,8 +165,8 @@ impl Place {
     /// Evaluates a test, and keeps its alarms.
     pub fn branch(&mut self, alloc: Global, condition: &Test) -> Result<Branches, AllocError>
         ensures row { OnOk result (self.new.row ≡ self.old.row) }
-        ensures alarms { OnOk result (AlarmsAt self.new (test_expr condition.now)) }
-        ensures branches { IfOk result (λ b. BranchesAt self.new (test_expr condition.now) b.when_true b.when_false) }
+        ensures alarms { OnOk result (AlarmsAt self.new (test_expr (test_tree condition.now))) }
+        ensures branches { IfOk result (λ b. BranchesAt self.new (test_expr (test_tree condition.now)) b.when_true b.when_false) }
     {
         match &self.row {
             None => Ok(Branches {
@@ -189,7 +190,7 @@ struct Split {
 }
 
 fn split_row(alloc: Global, row: &[Content], condition: &Test) -> Result<Split, AllocError>
-    ensures { IfOk result (λ s. (env : _) → HoldsRow row.now env → SplitsTo s env (value env (test_expr condition.now))) }
+    ensures { IfOk result (λ s. (env : _) → HoldsRow row.now env → SplitsTo s env (value env (test_expr (test_tree condition.now)))) }
 {
     let result = test(row, condition);
     let when_true = copy_if(alloc, result.truths.may_be_true, row)?;

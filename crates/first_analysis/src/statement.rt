@@ -1,13 +1,13 @@
 //! Statements over rows: what arrives at each of their places, until nothing more arrives.
 ghost use Rattle.std.specs.Prelude.{◌≡◌, ◌<◌, ◌^◌, ◌+◌, suc, ◌∷◌, [], length, map, IfOk};
-ghost use Rattle.c_prog.specs.Source.{Assign, Return, While, Nothing, count, count_all};
-ghost use Rattle.c_prog.specs.SourceViews.{tree_of, trees_of};
+ghost use Rattle.first_program.specs.Source.{Assign, Return, While, Nothing, count, count_all};
+ghost use Rattle.first_program.specs.SourceViews.{sum_tree, test_tree, tree_of, trees_of};
 ghost use Rattle.first_analysis.specs.Tables.{Flows, FlowsAll, ArmFlows, LadderFlows, choice, last_of};
 
 use crate::place::{MOST_UPDATES, Place};
 use crate::row::{Reached, join};
 use c_prog::number::BaseId;
-use c_prog::tree::{Arm, Stmt, Sum, Test};
+use first_program::tree::{Arm, Stmt, Sum, Test};
 use sqlite_items::Boxed;
 use std::alloc::{AllocError, Global};
 
@@ -67,7 +67,7 @@ fn assignment(
     value: &Sum,
 ) -> Result<Reached, AllocError>
     requires { length places.old ≡ 1 }
-    ensures { IfOk result (λ after. Flows (Assign target value.now) places.new before after) }
+    ensures { IfOk result (λ after. Flows (Assign target (sum_tree value.now)) places.new before after) }
 {
     places[0].arrive(alloc, &before, None)?;
     places[0].assign(alloc, target, value)
@@ -81,7 +81,7 @@ fn giving(
     value: &Sum,
 ) -> Result<Reached, AllocError>
     requires { length places.old ≡ 1 }
-    ensures { IfOk result (λ after. Flows (Return value.now) places.new before after) }
+    ensures { IfOk result (λ after. Flows (Return (sum_tree value.now)) places.new before after) }
 {
     places[0].arrive(alloc, &before, None)?;
     places[0].give(value);
@@ -114,15 +114,15 @@ pub fn statements(
 #[cycle(flowing)]
 fn repeat(
     alloc: Global,
-    test: &Test,
     body: &Stmt,
+    test: &Test,
     head: &mut Place,
     places: &mut [Place],
     before: &Reached,
     marks: &[i64],
 ) -> Result<Reached, AllocError>
     requires { length places.old ≡ count (tree_of body.now) }
-    ensures { IfOk result (λ after. Flows (While test.now (tree_of body.now)) (head.new ∷ places.new) before.now after) }
+    ensures { IfOk result (λ after. Flows (While (test_tree test.now) (tree_of body.now)) (head.new ∷ places.new) before.now after) }
 {
     head.arrive(alloc, before, Some(marks))?;
     for _ in 0..MOST_UPDATES {
@@ -155,7 +155,7 @@ fn take_arm(
     marks: &[i64],
 ) -> Result<Taken, AllocError>
     requires { length places.old ≡ suc (count (tree_of arm.now.body)) }
-    ensures { IfOk result (λ t. ArmFlows arm.now.test (tree_of arm.now.body) places.new before t.left t.other) }
+    ensures { IfOk result (λ t. ArmFlows (test_tree arm.now.test) (tree_of arm.now.body) places.new before t.left t.other) }
 {
     let (heads, rest) = places.split_at_mut(1);
     heads[0].arrive(alloc, &before, None)?;
@@ -228,7 +228,7 @@ pub fn statement(
         }
         Stmt::While { test, body } => {
             let (heads, rest) = places.split_at_mut(1);
-            repeat(alloc, test, body.get(), &mut heads[0], rest, &before, marks)
+            repeat(alloc, body.get(), test, &mut heads[0], rest, &before, marks)
         }
         Stmt::Block(stmts) => statements(alloc, stmts.as_slice(), places, before, marks),
     }

@@ -9,14 +9,15 @@ use Rattle.c_prog.specs.declared.number.Span.{Span}
 use Rattle.c_prog.specs.declared.token.Keyword.TheVariants as key
 use Rattle.c_prog.specs.declared.token.Punctuator.TheVariants as mark
 use Rattle.c_prog.specs.declared.token.Token.{Token}
-use Rattle.c_prog.specs.declared.tree.Program.{Program as CodeProgram}
-use Rattle.c_prog.specs.Source.{Stmt, Stmts, Program, count_all}
-use Rattle.c_prog.specs.SourceViews.{listed, program_of, AreStmtsShaped, IsShaped}
+use Rattle.first_program.specs.declared.tree.Program.{Program as CodeProgram}
+use Rattle.first_program.specs.Source.{Stmt, Stmts, Program, count_all}
+use Rattle.first_program.specs.SourceViews.{listed, program_of, AreStmtsShaped, IsShaped}
 use Rattle.first_language.specs.Exactness.{Exactly}
 use Rattle.first_language.specs.Language.{Piece, Key, Mark, Text, Here, Fits, spell_all, spell_declarations, AreFresh, AreStatements, nest_all, Spells}
-use Rattle.first_language.specs.Reading.{behind_key, behind_mark, name_at, here, Read, body_at, stmt_at, behind_main, header_at, declared_at, Declarations, declarations_with, declarations_behind, declarations_at, is_end, main_at, program_at}
+use Rattle.c_parse_expr.specs.Tokens.{behind_key, behind_mark, name_at}
+use Rattle.first_language.specs.Reading.{here, Read, body_at, stmt_at, behind_main, header_at, declared_at, Declarations, declarations_with, declarations_behind, declarations_at, is_end, main_at, program_at}
 use Rattle.first_language.proofs.Fronts.{After, Spelled, key_here, key_none, mark_here, name_here, key_found, mark_found, name_found}
-use Rattle.first_language.proofs.Additions.{bound}
+use Rattle.first_language.proofs.Expressions.{bound}
 use Rattle.first_language.proofs.Reaching.{placed, plain_list, listed_plain, body_not_int, body_here, stmt_here}
 use Rattle.first_language.proofs.Sounding.{body_sound, stmt_sound, here_fits, one_mark}
 

@@ -4,7 +4,8 @@ use Rattle.std.specs.Prelude.{bytes_eq, if◌then◌else◌}
 use Rattle.std.specs.List.{list_any}
 use Rattle.c_prog.specs.declared.token.Keyword.TheVariants as key
 use Rattle.c_prog.specs.declared.token.Token.{Token}
-use Rattle.first_language.specs.Reading.{Declarations, declarations_at, declared_at, behind_key}
+use Rattle.c_parse_expr.specs.Tokens.{behind_key}
+use Rattle.first_language.specs.Reading.{Declarations, declarations_at, declared_at}
 
 -- so far these names are read, and the rest is left
 pub record Declares (names keys : List (List ℕ)) (tokens rest : List Token) : Type 0 where

@@ -2,17 +2,18 @@
 use Rattle.std.proofs.Common.{◌≡◌, ℕ, zero, suc, ◌<◌, ◌≤◌, max, true, false, List, [], ◌∷◌, ◌++◌, length, Option, None, Some, refl, ◌∙◌, ap, arith, append_assoc, append-nil}
 use Rattle.c_prog.specs.declared.number.BaseId.{BaseId}
 use Rattle.c_prog.specs.declared.number.Span.{Span}
-use Rattle.c_prog.specs.declared.tree.Sum.{Sum}
-use Rattle.c_prog.specs.declared.tree.Test.{Test}
+use Rattle.first_program.specs.Source.{Sum}
+use Rattle.first_program.specs.Source.{Test}
 use Rattle.c_prog.specs.declared.token.Keyword.TheVariants as key
 use Rattle.c_prog.specs.declared.token.Punctuator.TheVariants as mark
 use Rattle.c_prog.specs.declared.token.Token.{Token}
-use Rattle.c_prog.specs.Source.{Stmt, Assign, Return, If, While, Block, Nothing, Stmts, Done, Next}
-use Rattle.c_prog.specs.SourceViews.{listed, ladder}
-use Rattle.first_language.specs.Language.{Piece, Key, Mark, Mention, Here, Fits, spell_sum, spell_test, spell_else, spell, spell_all, is_open, IsNearest, IsStatement, AreStatements, nest_test, nest, nest_all}
-use Rattle.first_language.specs.Reading.{behind_key, behind_mark, target_at, condition_at, value_at, here, Read, Rule, assignment_at, return_at, last_at, arm_at, while_at, arms_at, if_at, body_at, block_at, rule_at, stmt_at}
+use Rattle.first_program.specs.Source.{Stmt, Assign, Return, If, While, Block, Nothing, Stmts, Done, Next}
+use Rattle.first_program.specs.SourceViews.{listed, ladder}
+use Rattle.first_language.specs.Language.{Piece, Key, Mark, Mention, Value, Condition, Here, Fits, spell_else, spell, spell_all, is_open, IsNearest, IsStatement, AreStatements, nest_test, nest, nest_all}
+use Rattle.c_parse_expr.specs.Tokens.{behind_key, behind_mark}
+use Rattle.first_language.specs.Reading.{target_at, condition_at, value_at, here, Read, Rule, assignment_at, return_at, last_at, arm_at, while_at, arms_at, if_at, body_at, block_at, rule_at, stmt_at}
 use Rattle.first_language.proofs.Fronts.{IsWord, key_piece, mark_piece, key_here, key_none, mark_here, mark_none, target_here, here_placed}
-use Rattle.first_language.proofs.Additions.{condition_here, value_here}
+use Rattle.first_language.proofs.Expressions.{condition_here, value_here}
 
 -- what is found is just this; some of the spans are added, and the others are of the further pieces
 pub record Reached (A : Type 0) (V : List (List ℕ)) (item : A) (more : List Piece) (most : ℕ) (acc spans : List Span) (found : Option (Read A)) : Type 0 where
@@ -48,10 +49,10 @@ placed_whole acc spans later at span e f = rw (e, f, append_assoc) refl
 
 -- the pieces behind the first word of a statement
 abbrev behind_first : Stmt → List Piece → List Piece
-behind_first (Assign target value) more = Mark mark.Assign ∷ spell_sum value (Mark mark.Semicolon ∷ more)
-behind_first (Return value) more = spell_sum value (Mark mark.Semicolon ∷ more)
-behind_first (If test s t) more = Mark mark.OpenParenthesis ∷ spell_test test (Mark mark.CloseParenthesis ∷ spell s (spell_else t (spell t more)))
-behind_first (While test s) more = Mark mark.OpenParenthesis ∷ spell_test test (Mark mark.CloseParenthesis ∷ spell s more)
+behind_first (Assign target value) more = Mark mark.Assign ∷ Value value ∷ Mark mark.Semicolon ∷ more
+behind_first (Return value) more = Value value ∷ Mark mark.Semicolon ∷ more
+behind_first (If test s t) more = Mark mark.OpenParenthesis ∷ Condition test ∷ Mark mark.CloseParenthesis ∷ spell s (spell_else t (spell t more))
+behind_first (While test s) more = Mark mark.OpenParenthesis ∷ Condition test ∷ Mark mark.CloseParenthesis ∷ spell s more
 behind_first (Block stmts) more = spell_all stmts (Mark mark.CloseBrace ∷ more)
 behind_first Nothing more = more
 
@@ -133,7 +134,7 @@ module _ (V : List (List ℕ)) (d : ℕ) (inner : Rule)
   arm_is test s tokens behind rest acc now e f = rw (e, f) refl
 
   arm_here : (test : Test) (s : Stmt) (more : List Piece) (tokens : List Token) (acc spans : List Span) → nest_test test ≤ d → IsStatement false s → nest 1 s ≤ d →
-      (is_open s ≡ true → Closed V more) → Fits V (Mark mark.OpenParenthesis ∷ spell_test test (Mark mark.CloseParenthesis ∷ spell s more)) tokens spans →
+      (is_open s ≡ true → Closed V more) → Fits V (Mark mark.OpenParenthesis ∷ Condition test ∷ Mark mark.CloseParenthesis ∷ spell s more) tokens spans →
       Reached (Test × Stmt) V (test, s) more (length tokens) acc spans (arm_at V d inner acc tokens)
   arm_here test s more tokens acc spans small ok nests closed h =
       let c = condition_here V d test (spell s more) tokens spans small h in
@@ -218,7 +219,7 @@ module _ (V : List (List ℕ)) (d : ℕ) (inner : Rule)
       let follow = spell_else t (spell t more) in
       let both : max (max (nest_test test) (nest 1 s)) (nest 0 t) ≤ d = omega arith in
       let here_small = left_small (max (nest_test test) (nest 1 s)) (nest 0 t) d both in
-      let inside = Mark mark.OpenParenthesis ∷ spell_test test (Mark mark.CloseParenthesis ∷ spell s follow) in
+      let inside = Mark mark.OpenParenthesis ∷ Condition test ∷ Mark mark.CloseParenthesis ∷ spell s follow in
       let e = key_here V key.Else (Here ∷ Key key.If ∷ inside) tokens spans h in
       let p = placed V (Key key.If ∷ inside) e.rest spans e.fits in
       let k = key_here V key.If inside e.rest p.later p.fits in
@@ -346,7 +347,7 @@ module _ (V : List (List ℕ)) (d : ℕ) (inner : Rule)
       (is_open s ≡ true → Closed V more) → Fits V (spell s more) tokens spans → Reached Stmt V s more (length tokens) acc spans (rule_at V d inner acc tokens)
   rule_here Nothing more tokens acc spans ok nests closed h = absurd (cc)
   rule_here (Assign target value) more tokens acc spans ok nests closed h =
-      let behind = spell_sum value (Mark mark.Semicolon ∷ more) in
+      let behind = Value value ∷ Mark mark.Semicolon ∷ more in
       let p = placed V (Mention target ∷ Mark mark.Assign ∷ behind) tokens spans h in
       let x = target_here V target (Mark mark.Assign ∷ behind) tokens p.later p.fits in
       let m = mark_here V mark.Assign behind x.rest p.later x.fits in
@@ -365,7 +366,7 @@ module _ (V : List (List ℕ)) (d : ℕ) (inner : Rule)
         shorter = omega arith;
       }
   rule_here (Return value) more tokens acc spans ok nests closed h =
-      let behind = spell_sum value (Mark mark.Semicolon ∷ more) in
+      let behind = Value value ∷ Mark mark.Semicolon ∷ more in
       let p = placed V (Key key.Return ∷ behind) tokens spans h in
       let k = key_here V key.Return behind tokens p.later p.fits in
       let v = value_here V 0 d value more k.rest p.later (omega arith) k.fits in
@@ -382,7 +383,7 @@ module _ (V : List (List ℕ)) (d : ℕ) (inner : Rule)
         shorter = omega arith;
       }
   rule_here (While test s) more tokens acc spans ok nests closed h =
-      let behind = Mark mark.OpenParenthesis ∷ spell_test test (Mark mark.CloseParenthesis ∷ spell s more) in
+      let behind = Mark mark.OpenParenthesis ∷ Condition test ∷ Mark mark.CloseParenthesis ∷ spell s more in
       let both : max (nest_test test) (nest 1 s) ≤ d = omega arith in
       let p = placed V (Key key.While ∷ behind) tokens spans h in
       let k = key_here V key.While behind tokens p.later p.fits in
@@ -402,7 +403,7 @@ module _ (V : List (List ℕ)) (d : ℕ) (inner : Rule)
       }
   rule_here (If test s t) more tokens acc spans ok nests closed h =
       let follow = spell_else t (spell t more) in
-      let behind = Mark mark.OpenParenthesis ∷ spell_test test (Mark mark.CloseParenthesis ∷ spell s follow) in
+      let behind = Mark mark.OpenParenthesis ∷ Condition test ∷ Mark mark.CloseParenthesis ∷ spell s follow in
       let both : max (max (nest_test test) (nest 1 s)) (nest 0 t) ≤ d = omega arith in
       let here_small = left_small (max (nest_test test) (nest 1 s)) (nest 0 t) d both in
       let p = placed V (Key key.If ∷ behind) tokens spans h in

@@ -2,17 +2,18 @@
 use Rattle.std.proofs.Common.{◌≡◌, ℕ, zero, suc, ◌≤◌, Bool, true, false, List, [], ◌∷◌, ◌++◌, length, Option, None, Some, refl, sym, ◌∙◌, ap, arith, append_assoc, append-nil, length-append}
 use Rattle.c_prog.specs.declared.number.BaseId.{BaseId}
 use Rattle.c_prog.specs.declared.number.Span.{Span}
-use Rattle.c_prog.specs.declared.tree.Sum.{Sum}
-use Rattle.c_prog.specs.declared.tree.Test.{Test}
+use Rattle.first_program.specs.Source.{Sum}
+use Rattle.first_program.specs.Source.{Test}
 use Rattle.c_prog.specs.declared.token.Keyword.TheVariants as key
 use Rattle.c_prog.specs.declared.token.Punctuator.TheVariants as mark
 use Rattle.c_prog.specs.declared.token.Token.{Token}
-use Rattle.c_prog.specs.Source.{Stmt, Assign, Return, If, While, Block, Nothing, Stmts, Done, Next, count, count_all}
-use Rattle.c_prog.specs.SourceViews.{listed, ladder, IsTestShaped, IsStmtShaped, AreStmtsShaped}
-use Rattle.first_language.specs.Language.{Piece, Key, Mark, Mention, Here, Fits, spell_sum, spell_test, spell_else, spell, spell_all, is_open, IsNearest, IsStatement, AreStatements, nest_test, nest, nest_all}
-use Rattle.first_language.specs.Reading.{behind_key, behind_mark, target_at, condition_at, value_at, here, Read, Rule, assignment_at, return_at, last_at, arm_at, while_at, arms_with, arms_else, arms_behind, arms_at, if_at, body_with, body_before, body_at, block_at, rule_if, rule_while, rule_return, rule_block, rule_at, stmt_at}
+use Rattle.first_program.specs.Source.{Stmt, Assign, Return, If, While, Block, Nothing, Stmts, Done, Next, count, count_all}
+use Rattle.first_program.specs.SourceViews.{listed, ladder, IsTestShaped, IsStmtShaped, AreStmtsShaped}
+use Rattle.first_language.specs.Language.{Piece, Key, Mark, Mention, Value, Condition, Here, Fits, spell_else, spell, spell_all, is_open, IsNearest, IsStatement, AreStatements, nest_test, nest, nest_all}
+use Rattle.c_parse_expr.specs.Tokens.{behind_key, behind_mark}
+use Rattle.first_language.specs.Reading.{target_at, condition_at, value_at, here, Read, Rule, assignment_at, return_at, last_at, arm_at, while_at, arms_with, arms_else, arms_behind, arms_at, if_at, body_with, body_before, body_at, block_at, rule_if, rule_while, rule_return, rule_block, rule_at, stmt_at}
 use Rattle.first_language.proofs.Fronts.{IsWord, front, key_found, mark_found, target_found, target_shaped}
-use Rattle.first_language.proofs.Additions.{bound, condition_found, value_found}
+use Rattle.first_language.proofs.Expressions.{bound, condition_found, value_found}
 use Rattle.first_language.proofs.Reaching.{ladder_more, plain_list, listed_plain}
 
 -- a statement that is found: the tokens spell it, with the places that are added
@@ -30,7 +31,7 @@ record SoundArm (V : List (List ℕ)) (d : ℕ) (acc : List Span) (tokens : List
   pub added : List Span
   pub same : f.spans ≡ acc ++ added
   pub spelled : (more : List Piece) (spans : List Span) → Fits V more f.rest spans →
-      Fits V (Mark mark.OpenParenthesis ∷ spell_test f.item.0 (Mark mark.CloseParenthesis ∷ spell f.item.1 more)) tokens (added ++ spans)
+      Fits V (Mark mark.OpenParenthesis ∷ Condition f.item.0 ∷ Mark mark.CloseParenthesis ∷ spell f.item.1 more) tokens (added ++ spans)
   pub counted : length added ≡ count f.item.1
   pub small : nest_test f.item.0 ≤ d
   pub nests : nest 1 f.item.1 ≤ d
@@ -211,7 +212,7 @@ module _ (V : List (List ℕ)) (d : ℕ) (inner : Rule)
         added = here behind ++ (s.added ++ r.added);
         same = r.same ∙ ap (λ (x : List Span). x ++ r.added) s.same ∙ simp append_assoc refl;
         spelled = λ more spans h.
-            let inside = Mark mark.OpenParenthesis ∷ spell_test a.item.0 (Mark mark.CloseParenthesis ∷ spell a.item.1 (spell_else r.other (spell r.other more))) in
+            let inside = Mark mark.OpenParenthesis ∷ Condition a.item.0 ∷ Mark mark.CloseParenthesis ∷ spell a.item.1 (spell_else r.other (spell r.other more)) in
             let x : Fits V inside next (s.added ++ (r.added ++ spans)) = s.spelled _ _ (r.spelled more spans h) in
             let y : Fits V (Key key.If ∷ inside) behind (s.added ++ (r.added ++ spans)) = key_found V key.If behind next g inside _ x in
             let z = here_fits V (Key key.If) inside behind (s.added ++ (r.added ++ spans)) tt y in
@@ -313,7 +314,7 @@ module _ (V : List (List ℕ)) (d : ℕ) (inner : Rule)
         added = here tokens ++ s.added;
         same = s.same ∙ append_assoc acc (here tokens) s.added;
         spelled = λ more spans h.
-            let inside = Mark mark.OpenParenthesis ∷ spell_test a.item.0 (Mark mark.CloseParenthesis ∷ spell a.item.1 more) in
+            let inside = Mark mark.OpenParenthesis ∷ Condition a.item.0 ∷ Mark mark.CloseParenthesis ∷ spell a.item.1 more in
             let x : Fits V (Key key.While ∷ inside) tokens (s.added ++ spans) = key_found V key.While tokens behind e inside _ (s.spelled more spans h) in
             rw (append_assoc (here tokens) s.added spans) (here_fits V (Key key.While) inside tokens (s.added ++ spans) tt x);
         counted = rw length-append (omega arith);
@@ -340,7 +341,7 @@ module _ (V : List (List ℕ)) (d : ℕ) (inner : Rule)
         added = here tokens ++ (s.added ++ r.added);
         same = r.same ∙ ap (λ (x : List Span). x ++ r.added) s.same ∙ simp append_assoc refl;
         spelled = λ more spans h.
-            let inside = Mark mark.OpenParenthesis ∷ spell_test a.item.0 (Mark mark.CloseParenthesis ∷ spell a.item.1 (spell_else r.other (spell r.other more))) in
+            let inside = Mark mark.OpenParenthesis ∷ Condition a.item.0 ∷ Mark mark.CloseParenthesis ∷ spell a.item.1 (spell_else r.other (spell r.other more)) in
             let x : Fits V inside behind (s.added ++ (r.added ++ spans)) = s.spelled _ _ (r.spelled more spans h) in
             let y : Fits V (Key key.If ∷ inside) tokens (s.added ++ (r.added ++ spans)) = key_found V key.If tokens behind e inside _ x in
             rw (append_assoc (here tokens) (s.added ++ r.added) spans, append_assoc s.added r.added spans)
@@ -371,7 +372,7 @@ module _ (V : List (List ℕ)) (d : ℕ) (inner : Rule)
         added = here tokens;
         same = refl;
         spelled = λ more spans h.
-            let inside = spell_sum value (Mark mark.Semicolon ∷ more) in
+            let inside = Value value ∷ Mark mark.Semicolon ∷ more in
             here_fits V (Key key.Return) inside tokens spans tt (key_found V key.Return tokens behind e inside spans (v.spelled more spans h));
         counted = one_here key.Return tokens behind e;
         nests = omega arith;
@@ -397,7 +398,7 @@ module _ (V : List (List ℕ)) (d : ℕ) (inner : Rule)
         added = here tokens;
         same = refl;
         spelled = λ more spans h.
-            let inside = spell_sum value (Mark mark.Semicolon ∷ more) in
+            let inside = Value value ∷ Mark mark.Semicolon ∷ more in
             here_fits V (Mention target) (Mark mark.Assign ∷ inside) tokens spans tt
             (target_found V target tokens behind e (Mark mark.Assign ∷ inside) spans (mark_found V mark.Assign behind next g inside spans (v.spelled more spans h)));
         counted = one_target V target tokens behind e;

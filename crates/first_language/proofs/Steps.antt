@@ -1,14 +1,15 @@
 -- One round of each loop over statements.
 use Rattle.std.proofs.Common.{◌≡◌, ℕ, zero, suc, ◌-◌, ◌<◌, ◌≤◌, List, [], ◌∷◌, ◌++◌, length, map, Option, None, Some, refl, ◌∙◌, ap, arith}
 use Rattle.c_prog.specs.declared.number.Span.{Span}
-use Rattle.c_prog.specs.declared.tree.Arm.{Arm as CodeArm}
-use Rattle.c_prog.specs.declared.tree.Stmt.{Stmt as CodeStmt}
+use Rattle.first_program.specs.declared.tree.Arm.{Arm as CodeArm}
+use Rattle.first_program.specs.declared.tree.Stmt.{Stmt as CodeStmt}
 use Rattle.c_prog.specs.declared.token.Keyword.TheVariants as key
 use Rattle.c_prog.specs.declared.token.Punctuator.TheVariants as mark
 use Rattle.c_prog.specs.declared.token.Token.{Token}
-use Rattle.c_prog.specs.Source.{Stmt}
-use Rattle.c_prog.specs.SourceViews.{tree_of}
-use Rattle.first_language.specs.Reading.{Read, Rule, stmt_at, rule_at, if_at, arms_at, arm_at, body_at, behind_key, behind_mark, here}
+use Rattle.first_program.specs.Source.{Stmt}
+use Rattle.first_program.specs.SourceViews.{tree_of}
+use Rattle.c_parse_expr.specs.Tokens.{behind_key, behind_mark}
+use Rattle.first_language.specs.Reading.{Read, Rule, stmt_at, rule_at, if_at, arms_at, arm_at, body_at, here}
 use Rattle.first_language.specs.Views.{arm_of, read_of, arm_read_of}
 
 mapped : {A B : Type 0} (f : A → B) (xs : List A) (x : A) → map f (xs ++ x ∷ []) ≡ map f xs ++ f x ∷ []

@@ -3,45 +3,40 @@
 --     file = "int" "main" "(" "void" ")" "{" { "int" name ";" } { stmt } "}"
 --     stmt = name "=" sum ";" | "return" sum ";" | "while" "(" test ")" stmt | "{" { stmt } "}"
 --          | "if" "(" test ")" stmt [ "else" stmt ]
---     test = sum ( "<" | "<=" | ">" | ">=" | "==" | "!=" ) sum
---     sum  = atom { ( "+" | "-" ) atom }          atom = name | number
+--     test = sum ( "<" | "<=" | ">" | ">=" | "==" | "!=" ) sum | "(" test ")"
+--     sum  = atom { ( "+" | "-" ) atom }          atom = name | number | "(" sum ")"
 --
 -- The declared names differ, and each name that is used is declared. A number is a constant of type int, in any base. An `else`
--- belongs to the nearest `if` (C11 6.8.4.1).
-use Rattle.std.specs.Prelude.{ℕ, suc, ◌+◌, ◌≤◌, ◌≡◌, max, Bool, true, false, IsTrue, List, [], ◌∷◌, ◌++◌, Some, position, bytes_eq, codes}
+-- belongs to the nearest `if` (C11 6.8.4.1). Sums and tests are C expressions (C11 6.5): `Sums` says which.
+use Rattle.std.specs.Prelude.{ℕ, suc, ◌+◌, ◌≤◌, ◌≡◌, max, Bool, true, false, IsTrue, List, [], ◌∷◌, ◌++◌, Option, Some, position, bytes_eq, codes}
 use Rattle.std.specs.List.{list_any}
 use Rattle.c_prog.specs.declared.number.BaseId.{BaseId}
 use Rattle.c_prog.specs.declared.number.Span.{Span}
-use Rattle.c_prog.specs.declared.tree.Addend.{Addend}
-use Rattle.c_prog.specs.declared.tree.Atom.{Atom}
-use Rattle.c_prog.specs.declared.tree.Atom.TheVariants.{Number, Variable}
-use Rattle.c_prog.specs.declared.tree.Rel.{Rel}
-use Rattle.c_prog.specs.declared.tree.Rel.TheVariants.{Lt, Le, Gt, Ge, Eq, Ne}
-use Rattle.c_prog.specs.declared.tree.Sign.{Sign}
-use Rattle.c_prog.specs.declared.tree.Sign.TheVariants as sign
-use Rattle.c_prog.specs.declared.tree.Sum.{Sum}
-use Rattle.c_prog.specs.declared.tree.Test.{Test}
-use Rattle.c_prog.specs.declared.token.IntegerConstant.{IntegerConstant}
 use Rattle.c_prog.specs.declared.token.Keyword.{Keyword}
 use Rattle.c_prog.specs.declared.token.Keyword.TheVariants as key
-use Rattle.c_prog.specs.declared.token.Length.TheVariants.{Plain}
 use Rattle.c_prog.specs.declared.token.Punctuator.{Punctuator}
 use Rattle.c_prog.specs.declared.token.Punctuator.TheVariants as mark
 use Rattle.c_prog.specs.declared.token.Token.{Token}
 use Rattle.c_prog.specs.declared.token.Word.{Word}
 use Rattle.c_prog.specs.declared.token.Word.TheVariants as word
-use Rattle.c_prog.specs.Source.{Stmt, Assign, Return, If, While, Block, Nothing, Stmts, Done, Next, Program, count_all}
+use Rattle.c_tree.specs.Spelling.{pieces}
+use Rattle.c_tree.specs.Trees.{Tree}
+use Rattle.c_tree.specs.WellFormed.{IsExpr}
+use Rattle.c_parse_expr.specs.Found.{Fronts}
+use Rattle.first_program.specs.Source.{Sum, Number, Variable, Parenthesised, Run, Addends, End, Then, Test, Compare, Enclosed, Stmt, Assign, Return, If, While, Block, Nothing, Stmts, Done, Next, Program, count_all}
+use Rattle.first_language.specs.Sums.{sum_of, test_of}
 
 -- ---- words
 
--- A piece of a program's spelling: a keyword, a punctuator, an identifier, the name of a variable or a number; or `Here` before the
--- first word of a numbered statement.
+-- A piece of a program's spelling: a word, which is a keyword, a punctuator, an identifier or the name of a variable; the words of a
+-- sum or a test; or `Here` before the first word of a numbered statement.
 pub data Piece : Type 0 where
   Key : Keyword → Piece
   Mark : Punctuator → Piece
   Text : List ℕ → Piece
   Mention : BaseId → Piece
-  Constant : ℕ → Piece
+  Value : Sum → Piece
+  Condition : Test → Piece
   Here : Piece
 
 -- the text is the name of this variable; `main` is base 0, and variables are numbered from 1
@@ -50,20 +45,12 @@ pub record Names (variables : List (List ℕ)) (text : List ℕ) (base : BaseId)
   pub place : position (bytes_eq text) variables ≡ Some index
   pub number : base.0 ≡ suc index
 
--- the constant is of type int and has this value (C11 6.4.4.1)
-pub record IsInt (c : IntegerConstant) (n : ℕ) : Type 0 where
-  pub value : c.value ≡ n
-  pub small : n ≤ 2147483647
-  pub signed : c.unsigned ≡ false
-  pub plain : c.length ≡ Plain
-
 -- the word of a token is this piece
 abbrev pub Says : List (List ℕ) → Piece → Word → Type 0
 Says variables (Key k) (word.Keyword found) = found ≡ k
 Says variables (Mark p) (word.Punctuator found) = found ≡ p
 Says variables (Text text) (word.Identifier found) = found ≡ text
 Says variables (Mention base) (word.Identifier text) = Names variables text base
-Says variables (Constant n) (word.Integer c) = IsInt c n
 Says variables _ _ = ⊥
 
 -- a token begins the list, and this is its place
@@ -71,41 +58,25 @@ abbrev pub IsPlaced : List Token → Span → Type 0
 IsPlaced [] span = ⊥
 IsPlaced (t ∷ tokens) span = t.span ≡ span
 
+-- The tokens begin with the words of a C expression in which no name is a typedef name, and this is left; and the expression is what
+-- is asked for.
+pub record IsExpression {A : Type 0} (means : Tree → Option A) (item : A) (tokens rest : List Token) : Type 0 where
+  pub tree : Tree
+  pub shape : IsExpr [] tree
+  pub words : Fronts (pieces tree) tokens rest
+  pub meant : means tree ≡ Some item
+
 -- the tokens are just these pieces, and the spans are the places of the numbered statements
 abbrev pub Fits : List (List ℕ) → List Piece → List Token → List Span → Type 0
 Fits variables [] tokens spans = (tokens ≡ []) × (spans ≡ [])
+Fits variables (Value s ∷ more) tokens spans = (rest : List Token) × IsExpression (sum_of variables) s tokens rest × Fits variables more rest spans
+Fits variables (Condition t ∷ more) tokens spans = (rest : List Token) × IsExpression (test_of variables) t tokens rest × Fits variables more rest spans
 Fits variables (Here ∷ more) tokens [] = ⊥
 Fits variables (Here ∷ more) tokens (span ∷ spans) = IsPlaced tokens span × Fits variables more tokens spans
 Fits variables (w ∷ more) [] spans = ⊥
 Fits variables (w ∷ more) (t ∷ tokens) spans = Says variables w t.word × Fits variables more tokens spans
 
 -- ---- the spelling of a tree, before the pieces of what follows it
-
-abbrev pub spell_atom : Atom → List Piece → List Piece
-spell_atom (Number n) more = Constant n ∷ more
-spell_atom (Variable base) more = Mention base ∷ more
-
-abbrev pub mark_of_sign : Sign → Punctuator
-mark_of_sign sign.Plus = mark.Plus
-mark_of_sign sign.Minus = mark.Minus
-
-abbrev pub spell_addends : List Addend → List Piece → List Piece
-spell_addends [] more = more
-spell_addends (a ∷ addends) more = Mark (mark_of_sign a.sign) ∷ spell_atom a.atom (spell_addends addends more)
-
-abbrev pub spell_sum : Sum → List Piece → List Piece
-spell_sum s more = spell_atom s.first (spell_addends s.more more)
-
-abbrev pub mark_of_relation : Rel → Punctuator
-mark_of_relation Lt = mark.Less
-mark_of_relation Le = mark.LessEqual
-mark_of_relation Gt = mark.Greater
-mark_of_relation Ge = mark.GreaterEqual
-mark_of_relation Eq = mark.Equal
-mark_of_relation Ne = mark.NotEqual
-
-abbrev pub spell_test : Test → List Piece → List Piece
-spell_test t more = spell_sum t.left (Mark (mark_of_relation t.relation) ∷ spell_sum t.right more)
 
 -- the `else` before the second branch of an `if`, if there is one
 abbrev pub spell_else : Stmt → List Piece → List Piece
@@ -114,11 +85,11 @@ spell_else _ more = Key key.Else ∷ more
 
 abbrev mutual
   pub spell : Stmt → List Piece → List Piece
-  spell (Assign target value) more = Here ∷ Mention target ∷ Mark mark.Assign ∷ spell_sum value (Mark mark.Semicolon ∷ more)
-  spell (Return value) more = Here ∷ Key key.Return ∷ spell_sum value (Mark mark.Semicolon ∷ more)
+  spell (Assign target value) more = Here ∷ Mention target ∷ Mark mark.Assign ∷ Value value ∷ Mark mark.Semicolon ∷ more
+  spell (Return value) more = Here ∷ Key key.Return ∷ Value value ∷ Mark mark.Semicolon ∷ more
   spell (If test s t) more =
-      Here ∷ Key key.If ∷ Mark mark.OpenParenthesis ∷ spell_test test (Mark mark.CloseParenthesis ∷ spell s (spell_else t (spell t more)))
-  spell (While test s) more = Here ∷ Key key.While ∷ Mark mark.OpenParenthesis ∷ spell_test test (Mark mark.CloseParenthesis ∷ spell s more)
+      Here ∷ Key key.If ∷ Mark mark.OpenParenthesis ∷ Condition test ∷ Mark mark.CloseParenthesis ∷ spell s (spell_else t (spell t more))
+  spell (While test s) more = Here ∷ Key key.While ∷ Mark mark.OpenParenthesis ∷ Condition test ∷ Mark mark.CloseParenthesis ∷ spell s more
   spell (Block stmts) more = Mark mark.OpenBrace ∷ spell_all stmts (Mark mark.CloseBrace ∷ more)
   spell Nothing more = more
 
@@ -172,16 +143,21 @@ abbrev mutual
 
 -- ---- nesting: how many nodes the longest path into a tree has
 
--- an atom is a node, and so is a sum of several
-abbrev pub nest_addends : List Addend → ℕ
-nest_addends [] = 1
-nest_addends (a ∷ addends) = 2
+-- a pair of parentheses is a node, and so is a run
+abbrev mutual
+  pub nest_sum : Sum → ℕ
+  nest_sum (Number n) = 1
+  nest_sum (Variable base) = 1
+  nest_sum (Parenthesised s) = suc (nest_sum s)
+  nest_sum (Run s more) = suc (max (nest_sum s) (nest_addends more))
 
-abbrev pub nest_sum : Sum → ℕ
-nest_sum s = nest_addends s.more
+  pub nest_addends : Addends → ℕ
+  nest_addends End = 0
+  nest_addends (Then sign s more) = max (nest_sum s) (nest_addends more)
 
 abbrev pub nest_test : Test → ℕ
-nest_test t = suc (max (nest_sum t.left) (nest_sum t.right))
+nest_test (Compare left relation right) = suc (max (nest_sum left) (nest_sum right))
+nest_test (Enclosed t) = suc (nest_test t)
 
 -- An `if` adds 1, but `own` where it goes on with a ladder: a ladder is one node. An assignment is two, the statement's and its own.
 abbrev mutual

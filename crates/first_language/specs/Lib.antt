@@ -1,4 +1,5 @@
 pub mod Exactness
+pub mod Sums
 pub mod Language
 pub mod Reading
 pub mod Views

@@ -1,174 +1,46 @@
 -- The language as a function: what is found at the front of a list of tokens, and what is left.
-use Rattle.std.specs.Prelude.{ℕ, zero, suc, ◌+◌, nat_le, nat_lt, Bool, true, false, not, cond, ◌&&◌, List, [], ◌∷◌, ◌++◌, length, Option, None, Some, option_map, position, bytes_eq, codes}
+use Rattle.std.specs.Prelude.{ℕ, zero, suc, ◌-◌, nat_lt, Bool, true, false, cond, List, [], ◌∷◌, ◌++◌, length, Option, None, Some, bytes_eq, codes}
 use Rattle.std.specs.List.{list_any}
-use denote.Enum.Bare.{sameb}
-use Rattle.c_prog.specs.contracts.token.Keyword.{the_type as key_type}
-use Rattle.c_prog.specs.contracts.token.Punctuator.{the_type as mark_type}
 use Rattle.c_prog.specs.declared.number.BaseId.{BaseId}
 use Rattle.c_prog.specs.declared.number.Span.{Span}
-use Rattle.c_prog.specs.declared.tree.Addend.{Addend}
-use Rattle.c_prog.specs.declared.tree.Atom.{Atom}
-use Rattle.c_prog.specs.declared.tree.Atom.TheVariants.{Number, Variable}
-use Rattle.c_prog.specs.declared.tree.Rel.{Rel}
-use Rattle.c_prog.specs.declared.tree.Rel.TheVariants.{Lt, Le, Gt, Ge, Eq, Ne}
-use Rattle.c_prog.specs.declared.tree.Sign.{Sign}
-use Rattle.c_prog.specs.declared.tree.Sign.TheVariants as sign
-use Rattle.c_prog.specs.declared.tree.Sum.{Sum}
-use Rattle.c_prog.specs.declared.tree.Test.{Test}
-use Rattle.c_prog.specs.declared.token.IntegerConstant.{IntegerConstant}
-use Rattle.c_prog.specs.declared.token.Keyword.{Keyword}
 use Rattle.c_prog.specs.declared.token.Keyword.TheVariants as key
-use Rattle.c_prog.specs.declared.token.Length.{Length}
-use Rattle.c_prog.specs.declared.token.Length.TheVariants.{Plain, Long, LongLong}
-use Rattle.c_prog.specs.declared.token.Punctuator.{Punctuator}
 use Rattle.c_prog.specs.declared.token.Punctuator.TheVariants as mark
 use Rattle.c_prog.specs.declared.token.Token.{Token}
 use Rattle.c_prog.specs.declared.token.Word.{Word}
 use Rattle.c_prog.specs.declared.token.Word.TheVariants as word
-use Rattle.c_prog.specs.Source.{Stmt, Assign, Return, While, Block, Nothing, Stmts, Program}
-use Rattle.c_prog.specs.SourceViews.{listed, ladder}
-use Rattle.first_language.specs.Language.{nest_sum, nest_test}
-
-infixl 10 ◌>>=◌
-abbrev pub ◌>>=◌ : {A B : Type 0} → Option A → (A → Option B) → Option B
-None >>= f = None
-(Some x) >>= f = f x
+use Rattle.c_parse_expr.specs.Parsers.{expr_at}
+use Rattle.c_parse_expr.specs.Tokens.{◌>>=◌, behind_key, behind_mark, first, name_at}
+use Rattle.first_program.specs.Source.{Sum, Test, Stmt, Assign, Return, While, Block, Nothing, Stmts, Program}
+use Rattle.first_program.specs.SourceViews.{listed, ladder}
+use Rattle.first_language.specs.Sums.{variable_named, sum_of, test_of}
 
 -- ---- words
 
--- the rest behind a first token that passes a test
-abbrev pub behind : (Word → Bool) → List Token → Option (List Token)
-behind is [] = None
-behind is (t ∷ tokens) = cond (is t.word) (Some tokens) None
-
-abbrev pub is_key : Keyword → Word → Bool
-is_key k (word.Keyword found) = sameb key_type found k
-is_key k _ = false
-
-abbrev pub is_mark : Punctuator → Word → Bool
-is_mark p (word.Punctuator found) = sameb mark_type found p
-is_mark p _ = false
-
-unfoldable pub behind_key : Keyword → List Token → Option (List Token)
-behind_key k tokens = behind (is_key k) tokens
-
-unfoldable pub behind_mark : Punctuator → List Token → Option (List Token)
-behind_mark p tokens = behind (is_mark p) tokens
-
--- what a first word stands for, and the rest behind it
-abbrev pub first : {A : Type 0} → (Word → Option A) → List Token → Option (A × List Token)
-first f [] = None
-first f (t ∷ tokens) = option_map (λ x. (x, tokens)) (f t.word)
-
-abbrev pub text_of : Word → Option (List ℕ)
-text_of (word.Identifier text) = Some text
-text_of _ = None
-
-unfoldable pub name_at : List Token → Option (List ℕ × List Token)
-name_at tokens = first text_of tokens
-
-abbrev pub base_at : ℕ → BaseId
-base_at index = record { 0 = suc index }
-
 abbrev pub variable_of : List (List ℕ) → Word → Option BaseId
-variable_of variables (word.Identifier text) = option_map base_at (position (bytes_eq text) variables)
+variable_of variables (word.Identifier text) = variable_named variables text
 variable_of variables _ = None
 
 unfoldable pub target_at : List (List ℕ) → List Token → Option (BaseId × List Token)
 target_at variables tokens = first (variable_of variables) tokens
 
-abbrev pub is_plain : Length → Bool
-is_plain Plain = true
-is_plain Long = false
-is_plain LongLong = false
+-- ---- sums and tests
 
-abbrev pub is_int : IntegerConstant → Bool
-is_int c = not c.unsigned && (is_plain c.length && nat_le c.value 2147483647)
-
-abbrev pub number_of : IntegerConstant → Option ℕ
-number_of c = cond (is_int c) (Some c.value) None
-
-abbrev pub atom_of : List (List ℕ) → Word → Option Atom
-atom_of variables (word.Identifier text) = option_map Variable (variable_of variables (word.Identifier text))
-atom_of variables (word.Integer c) = option_map Number (number_of c)
-atom_of variables _ = None
-
-unfoldable pub atom_at : List (List ℕ) → List Token → Option (Atom × List Token)
-atom_at variables tokens = first (atom_of variables) tokens
-
-abbrev pub sign_of_mark : Punctuator → Option Sign
-sign_of_mark mark.Plus = Some sign.Plus
-sign_of_mark mark.Minus = Some sign.Minus
-sign_of_mark _ = None
-
-abbrev pub sign_of : Word → Option Sign
-sign_of (word.Punctuator p) = sign_of_mark p
-sign_of _ = None
-
-unfoldable pub sign_at : List Token → Option (Sign × List Token)
-sign_at tokens = first sign_of tokens
-
-abbrev pub relation_of_mark : Punctuator → Option Rel
-relation_of_mark mark.Less = Some Lt
-relation_of_mark mark.LessEqual = Some Le
-relation_of_mark mark.Greater = Some Gt
-relation_of_mark mark.GreaterEqual = Some Ge
-relation_of_mark mark.Equal = Some Eq
-relation_of_mark mark.NotEqual = Some Ne
-relation_of_mark _ = None
-
-abbrev pub relation_of : Word → Option Rel
-relation_of (word.Punctuator p) = relation_of_mark p
-relation_of _ = None
-
-unfoldable pub relation_at : List Token → Option (Rel × List Token)
-relation_at tokens = first relation_of tokens
-
--- ---- sums and tests; each loop has a number of rounds that it may take
-
-abbrev pub Addends : Type 0
-Addends = Option (List Addend × List Token)
-
--- `again` reads the further addends
-abbrev pub addends_with : (List Addend → List Token → Addends) → List Addend → Sign → Option (Atom × List Token) → Addends
-addends_with again found s None = None
-addends_with again found s (Some a) = again (found ++ (record { sign = s; atom = a.0 }) ∷ []) a.1
-
-abbrev pub addends_behind : List (List ℕ) → (List Addend → List Token → Addends) → List Addend → List Token → Option (Sign × List Token) → Addends
-addends_behind variables again found tokens None = Some (found, tokens)
-addends_behind variables again found tokens (Some s) = addends_with again found s.0 (atom_at variables s.1)
-
-abbrev pub addends : List (List ℕ) → ℕ → List Addend → List Token → Addends
-addends variables zero found tokens = None
-addends variables (suc n) found tokens = addends_behind variables (addends variables n) found tokens (sign_at tokens)
-
-unfoldable pub sum_at : List (List ℕ) → List Token → Option (Sum × List Token)
-sum_at variables tokens = do
-  a ← atom_at variables tokens
-  more ← addends variables (suc (length a.1)) [] a.1
-  Some (record { first = a.0; more = more.0 }, more.1)
-
-unfoldable pub test_at : List (List ℕ) → List Token → Option (Test × List Token)
-test_at variables tokens = do
-  left ← sum_at variables tokens
-  relation ← relation_at left.1
-  right ← sum_at variables relation.1
-  Some (record { left = left.0; relation = relation.0; right = right.0 }, right.1)
-
--- a test in parentheses that nests at most so deep
+-- a test that nests at most so deep, in the parentheses around it
 unfoldable pub condition_at : List (List ℕ) → ℕ → List Token → Option (Test × List Token)
 condition_at variables budget tokens = do
   inner ← behind_mark mark.OpenParenthesis tokens
-  test ← test_at variables inner
-  rest ← behind_mark mark.CloseParenthesis test.1
-  cond (nat_le (nest_test test.0) budget) (Some (test.0, rest)) None
+  e ← expr_at budget [] 0 inner
+  test ← test_of variables e.0
+  rest ← behind_mark mark.CloseParenthesis e.1
+  Some (test, rest)
 
 -- a sum and a semicolon; the sum and `own` levels above it nest at most so deep
 unfoldable pub value_at : List (List ℕ) → ℕ → ℕ → List Token → Option (Sum × List Token)
 value_at variables own budget tokens = do
-  sum ← sum_at variables tokens
-  rest ← behind_mark mark.Semicolon sum.1
-  cond (nat_le (own + nest_sum sum.0) budget) (Some (sum.0, rest)) None
+  e ← expr_at (budget - own) [] 0 tokens
+  sum ← sum_of variables e.0
+  rest ← behind_mark mark.Semicolon e.1
+  Some (sum, rest)
 
 -- ---- statements
 

@@ -2,11 +2,11 @@
 use Rattle.std.specs.Prelude.{List, map}
 use Rattle.c_prog.specs.declared.number.Span.{Span}
 use Rattle.c_prog.specs.declared.token.Token.{Token}
-use Rattle.c_prog.specs.declared.tree.Arm.{Arm as CodeArm, fold-Arm}
-use Rattle.c_prog.specs.declared.tree.Stmt.{Stmt as CodeStmt}
-use Rattle.c_prog.specs.declared.tree.Test.{Test}
-use Rattle.c_prog.specs.Source.{Stmt}
-use Rattle.c_prog.specs.SourceViews.{stmt_step, arm_step, tree_of}
+use Rattle.first_program.specs.declared.tree.Arm.{Arm as CodeArm, fold-Arm}
+use Rattle.first_program.specs.declared.tree.Stmt.{Stmt as CodeStmt}
+use Rattle.first_program.specs.Source.{Test}
+use Rattle.first_program.specs.Source.{Stmt}
+use Rattle.first_program.specs.SourceViews.{stmt_step, arm_step, tree_of}
 use Rattle.first_language.specs.Reading.{Read}
 
 abbrev pub arm_of : CodeArm → Test × Stmt

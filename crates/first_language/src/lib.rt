@@ -3,12 +3,12 @@
 #![tactic(auto)]
 
 ghost use Rattle.std.specs.Prelude.{◌≤◌, length, option_map, IfOk, IfSome};
-ghost use Rattle.c_prog.specs.SourceViews.{program_of, IsShaped};
+ghost use Rattle.first_program.specs.SourceViews.{program_of, IsShaped};
 ghost use Rattle.first_language.specs.Exactness.{Exactly};
 ghost use Rattle.first_language.specs.Language.{Spells};
 
 use c_prog::token::Token;
-use c_prog::tree::Program;
+use first_program::tree::Program;
 use std::alloc::{AllocError, Global};
 
 mod parser;
@@ -16,13 +16,15 @@ mod statements;
 mod sums;
 #[cfg(test)]
 mod tests;
+mod values;
 mod words;
 
 /// The program that tokens spell, if they spell one:
 ///
 /// - `int main(void) {`, declarations `int name;` of different names, statements, and `}` as the last token;
 /// - a statement is an assignment, a `return`, an `if` with or without `else`, a `while` or a block; an `else` belongs to the nearest `if`;
-/// - a test compares two sums, and a sum adds and subtracts declared names and constants of type int;
+/// - a test compares two sums, and a sum adds and subtracts declared names and constants of type int; parentheses may stand round
+///   a test, a sum and any part of a sum that is one;
 /// - there are at most 200,000 numbered statements, the closing brace among them, and nothing nests more than 200 deep.
 ///
 /// `Spells` has the rules. Time and memory are linear in the tokens, and the recursion is no deeper than the nesting that is allowed.

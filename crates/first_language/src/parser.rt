@@ -1,15 +1,16 @@
 //! Whole programs.
 ghost use Rattle.std.specs.Prelude.{◌≡◌, ◌<◌, ◌≤◌, ◌*◌, ◌+◌, ◌-◌, ◌^◌, [], suc, length, option_copied, option_map, IfOk, IfSome};
 ghost use Rattle.indexmap.specs.IndexSet.{index_set_len};
-ghost use Rattle.c_prog.specs.SourceViews.{program_of, trees_of};
+ghost use Rattle.first_program.specs.SourceViews.{program_of, trees_of};
 ghost use Rattle.first_language.specs.Reading.{behind_main, header_at, declared_at, declarations_at, is_end, main_at, program_at};
 
 use crate::statements::body_at;
-use crate::words::{behind_keyword, behind_punctuator, name_at, push_place};
+use crate::words::push_place;
+use c_parse_expr::words::{behind_keyword, behind_punctuator, name_at};
 use c_prog::name::Name;
 use c_prog::number::Span;
 use c_prog::token::{Keyword, Punctuator, Token};
-use c_prog::tree::{Program, Stmt};
+use first_program::tree::{Program, Stmt};
 use indexmap::IndexSet;
 use sqlite_items::Items;
 use std::alloc::{AllocError, Global};
@@ -18,7 +19,7 @@ use std::alloc::{AllocError, Global};
 pub const MOST_STATEMENTS: usize = 200_000;
 
 /// How deep a program may nest, below the definition of `main` and its block.
-pub const MOST_NESTING: usize = 198;
+pub const MOST_NESTING: u8 = 198;
 
 // The tokens behind the name `main`.
 #[tactic(auto, unfolding(crate::specs::Reading::behind_main))]
@@ -127,7 +128,7 @@ fn main_at(
     alloc: Global,
     tokens: &[Token],
     variables: &IndexSet<Name>,
-    budget: usize,
+    budget: u8,
 ) -> Result<Option<(Items<Stmt>, Vec<Span>)>, AllocError>
     requires { index_set_len variables.now < 2 ^ 32 - 1 }
     ensures { IfOk result (λ found. option_map (λ f. (trees_of f.0, f.1.items)) found ≡ main_at variables.now.keys budget tokens.now) }

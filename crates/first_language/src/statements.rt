@@ -1,17 +1,18 @@
 //! Statements. `budget` is how deep what stands inside may nest; the places of the numbered statements are added to `spans`.
 ghost use Rattle.std.specs.Prelude.{◌≡◌, ◌<◌, ◌≤◌, ◌+◌, ◌-◌, ◌^◌, [], suc, length, map, option_map, IfOk, IfSome, None, Some};
 ghost use Rattle.indexmap.specs.IndexSet.{index_set_len};
-ghost use Rattle.c_prog.specs.SourceViews.{ladder, otherwise_of, tree_of, trees_of};
+ghost use Rattle.first_program.specs.SourceViews.{ladder, otherwise_of, tree_of, trees_of};
 ghost use Rattle.first_language.specs.Reading.{stmt_at, rule_at, if_at, arms_at, last_at, arm_at, while_at, return_at, assignment_at, block_at, body_at};
-ghost use Rattle.c_prog.specs.Source.{Block, While};
+ghost use Rattle.first_program.specs.Source.{Block, While};
 ghost use Rattle.first_language.specs.Views.{arm_of, read_of, arm_read_of, body_read_of};
 
-use crate::sums::{condition_at, value_at};
-use crate::words::{behind_keyword, behind_punctuator, push_place, target_at};
+use crate::values::{condition_at, value_at};
+use crate::words::{push_place, target_at};
+use c_parse_expr::words::{behind_keyword, behind_punctuator};
 use c_prog::name::Name;
 use c_prog::number::Span;
 use c_prog::token::{Keyword, Punctuator, Token};
-use c_prog::tree::{Arm, Stmt};
+use first_program::tree::{Arm, Stmt};
 use indexmap::IndexSet;
 use sqlite_items::{Boxed, Items};
 use std::alloc::{AllocError, Global};
@@ -21,7 +22,7 @@ fn assignment_at<'a>(
     alloc: Global,
     tokens: &'a [Token],
     variables: &IndexSet<Name>,
-    budget: usize,
+    budget: u8,
     spans: &mut Vec<Span>,
 ) -> Result<Option<(Stmt, &'a [Token])>, AllocError>
     requires { index_set_len variables.now < 2 ^ 32 - 1 }
@@ -46,7 +47,7 @@ fn return_at<'a>(
     alloc: Global,
     tokens: &'a [Token],
     variables: &IndexSet<Name>,
-    budget: usize,
+    budget: u8,
     spans: &mut Vec<Span>,
 ) -> Result<Option<(Stmt, &'a [Token])>, AllocError>
     requires { index_set_len variables.now < 2 ^ 32 - 1 }
@@ -90,7 +91,7 @@ fn arm_at<'a>(
     alloc: Global,
     tokens: &'a [Token],
     variables: &IndexSet<Name>,
-    budget: usize,
+    budget: u8,
     spans: &mut Vec<Span>,
 ) -> Result<Option<(Arm, &'a [Token])>, AllocError>
     requires { index_set_len variables.now < 2 ^ 32 - 1 }
@@ -112,7 +113,7 @@ fn while_at<'a>(
     alloc: Global,
     tokens: &'a [Token],
     variables: &IndexSet<Name>,
-    budget: usize,
+    budget: u8,
     spans: &mut Vec<Span>,
 ) -> Result<Option<(Stmt, &'a [Token])>, AllocError>
     requires { index_set_len variables.now < 2 ^ 32 - 1 }
@@ -132,7 +133,7 @@ fn last_at<'a>(
     alloc: Global,
     tokens: &'a [Token],
     variables: &IndexSet<Name>,
-    budget: usize,
+    budget: u8,
     spans: &mut Vec<Span>,
     arms: Vec<Arm>,
 ) -> Result<Option<(Stmt, &'a [Token])>, AllocError>
@@ -155,7 +156,7 @@ fn arms_at<'a>(
     alloc: Global,
     tokens: &'a [Token],
     variables: &IndexSet<Name>,
-    budget: usize,
+    budget: u8,
     spans: &mut Vec<Span>,
     first: Vec<Arm>,
 ) -> Result<Option<(Stmt, &'a [Token])>, AllocError>
@@ -187,7 +188,7 @@ fn if_at<'a>(
     alloc: Global,
     tokens: &'a [Token],
     variables: &IndexSet<Name>,
-    budget: usize,
+    budget: u8,
     spans: &mut Vec<Span>,
 ) -> Result<Option<(Stmt, &'a [Token])>, AllocError>
     requires { index_set_len variables.now < 2 ^ 32 - 1 }
@@ -210,7 +211,7 @@ pub fn body_at<'a>(
     alloc: Global,
     tokens: &'a [Token],
     variables: &IndexSet<Name>,
-    budget: usize,
+    budget: u8,
     spans: &mut Vec<Span>,
 ) -> Result<Option<(Items<Stmt>, &'a [Token])>, AllocError>
     requires { index_set_len variables.now < 2 ^ 32 - 1 }
@@ -237,7 +238,7 @@ fn block_at<'a>(
     alloc: Global,
     tokens: &'a [Token],
     variables: &IndexSet<Name>,
-    budget: usize,
+    budget: u8,
     spans: &mut Vec<Span>,
 ) -> Result<Option<(Stmt, &'a [Token])>, AllocError>
     requires { index_set_len variables.now < 2 ^ 32 - 1 }
@@ -260,7 +261,7 @@ fn rule_at<'a>(
     alloc: Global,
     tokens: &'a [Token],
     variables: &IndexSet<Name>,
-    budget: usize,
+    budget: u8,
     spans: &mut Vec<Span>,
 ) -> Result<Option<(Stmt, &'a [Token])>, AllocError>
     requires { index_set_len variables.now < 2 ^ 32 - 1 }
@@ -291,7 +292,7 @@ pub fn statement_at<'a>(
     alloc: Global,
     tokens: &'a [Token],
     variables: &IndexSet<Name>,
-    budget: usize,
+    budget: u8,
     spans: &mut Vec<Span>,
 ) -> Result<Option<(Stmt, &'a [Token])>, AllocError>
     requires { index_set_len variables.now < 2 ^ 32 - 1 }

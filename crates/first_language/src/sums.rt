@@ -1,153 +1,217 @@
-//! Sums and tests.
-ghost use Rattle.std.specs.Prelude.{◌≡◌, ◌<◌, ◌≤◌, ◌-◌, ◌^◌, suc, [], length, option_map, IfOk, IfSome};
+//! Sums and tests: C expressions, of which the variables, numbers and operators of the language are known.
+ghost use Rattle.std.specs.Prelude.{◌≡◌, ◌<◌, ◌-◌, ◌^◌, map, option_map, IfOk};
 ghost use Rattle.indexmap.specs.IndexSet.{index_set_len};
-ghost use Rattle.first_language.specs.Language.{nest_sum, nest_test};
-ghost use Rattle.first_language.specs.Reading.{addends, sum_at, test_at, condition_at, value_at};
+ghost use Rattle.c_tree.specs.Views.{tree_of, operand_tree, operands_of};
+ghost use Rattle.first_program.specs.SourceViews.{addend_tree, sum_tree, test_tree};
+ghost use Rattle.first_language.specs.Sums.{is_plain, is_int, number_of, sign_of, relation_of, sum_of, addends_of, addend_of, compared_with, comparison_of, test_of};
 
-use crate::words::{atom_at, behind_punctuator, relation_at, sign_at};
+use crate::words::variable_named;
 use c_prog::name::Name;
-use c_prog::token::{Punctuator, Token};
-use c_prog::tree::{Addend, Sum, Test};
+use c_prog::token::{IntegerConstant, Length};
+use c_prog::tree::Rel;
+use c_tree::operator::BinaryOperator;
+use c_tree::tree::{Expr, Operand};
+use first_program::tree::{Addend, Sign, Sum, Test};
 use indexmap::IndexSet;
-use sqlite_items::Items;
+use sqlite_items::{Boxed, Items};
 use std::alloc::{AllocError, Global};
 
-fn nest_of_sum(sum: &Sum) -> usize
-    ensures { result ≡ nest_sum sum.now }
+fn is_plain(length: Length) -> bool
+    ensures { result ≡ is_plain length }
 {
-    if sum.more.is_empty() { 1 } else { 2 }
+    match length {
+        Length::Plain => true,
+        Length::Long => false,
+        Length::LongLong => false,
+    }
 }
 
-fn nest_of_test(test: &Test) -> usize
-    ensures { result ≡ nest_test test.now }
+// Whether a constant is of type int (C11 6.4.4.1).
+fn is_int(constant: IntegerConstant) -> bool
+    ensures { result ≡ is_int constant }
 {
-    nest_of_sum(&test.left).max(nest_of_sum(&test.right)) + 1
+    !constant.unsigned && is_plain(constant.length) && constant.value <= 2147483647
 }
 
-fn addends_from<'a>(
+fn number_of(constant: IntegerConstant) -> Option<u32>
+    ensures { result ≡ number_of constant }
+{
+    if is_int(constant) {
+        Some(constant.value as u32)
+    } else {
+        None
+    }
+}
+
+fn sign_of(operator: BinaryOperator) -> Option<Sign>
+    ensures { result ≡ sign_of operator }
+{
+    match operator {
+        BinaryOperator::Add => Some(Sign::Plus),
+        BinaryOperator::Subtract => Some(Sign::Minus),
+        _ => None,
+    }
+}
+
+fn relation_of(operator: BinaryOperator) -> Option<Rel>
+    ensures { result ≡ relation_of operator }
+{
+    match operator {
+        BinaryOperator::Less => Some(Rel::Lt),
+        BinaryOperator::LessEqual => Some(Rel::Le),
+        BinaryOperator::Greater => Some(Rel::Gt),
+        BinaryOperator::GreaterEqual => Some(Rel::Ge),
+        BinaryOperator::Equal => Some(Rel::Eq),
+        BinaryOperator::NotEqual => Some(Rel::Ne),
+        _ => None,
+    }
+}
+
+#[cycle(summing)]
+fn addend_of(
     alloc: Global,
-    tokens: &'a [Token],
+    operand: &Operand,
     variables: &IndexSet<Name>,
-) -> Result<Option<(Items<Addend>, &'a [Token])>, AllocError>
+) -> Result<Option<Addend>, AllocError>
     requires { index_set_len variables.now < 2 ^ 32 - 1 }
-    ensures found { IfOk result (λ found. option_map (λ f. (f.0, f.1.now)) found ≡ addends variables.now.keys (suc (length tokens.now)) [] tokens.now) }
-    ensures shorter { IfOk result (λ found. IfSome found (λ f. length f.1.now ≤ length tokens.now)) }
+    ensures { IfOk result (λ found. option_map addend_tree found ≡ addend_of variables.now.keys (operand_tree operand.now)) }
 {
-    let mut found = Vec::new(alloc);
-    let mut rest = tokens;
-    'adding: while let Some((sign, behind)) = sign_at(rest) {
-        match atom_at(behind, variables) {
+    let Some(sign) = sign_of(operand.operator) else {
+        return Ok(None);
+    };
+    match sum_of(alloc, &operand.operand, variables)? {
+        None => Ok(None),
+        Some(sum) => Ok(Some(Addend { sign, operand: sum })),
+    }
+}
+
+#[cycle(summing)]
+fn addends_of(
+    alloc: Global,
+    operands: &[Operand],
+    variables: &IndexSet<Name>,
+) -> Result<Option<Items<Addend>>, AllocError>
+    requires { index_set_len variables.now < 2 ^ 32 - 1 }
+    ensures { IfOk result (λ found. option_map (map addend_tree) found ≡ addends_of variables.now.keys (operands_of operands.now)) }
+{
+    let mut found = Items::new(alloc);
+    for operand in operands {
+        match addend_of(alloc, operand, variables)? {
             None => return Ok(None),
-            Some((atom, next)) => {
-                found.push(Addend { sign, atom })?;
-                rest = next;
-            }
+            Some(addend) => found.push(addend)?,
         }
     }
-    Ok(Some((Items::from_vec(found), rest)))
+    Ok(Some(found))
 }
 
-/// A sum at the front, and the tokens behind it.
-#[tactic(auto, unfolding(crate::specs::Reading::sum_at))]
-pub fn sum_at<'a>(
+/// The sum that an expression is, if it is one.
+#[cycle(summing)]
+pub fn sum_of(
     alloc: Global,
-    tokens: &'a [Token],
+    expr: &Expr,
     variables: &IndexSet<Name>,
-) -> Result<Option<(Sum, &'a [Token])>, AllocError>
+) -> Result<Option<Sum>, AllocError>
     requires { index_set_len variables.now < 2 ^ 32 - 1 }
-    ensures found { IfOk result (λ found. option_map (λ f. (f.0, f.1.now)) found ≡ sum_at variables.now.keys tokens.now) }
-    ensures shorter { IfOk result (λ found. IfSome found (λ f. length f.1.now < length tokens.now)) }
+    ensures { IfOk result (λ found. option_map sum_tree found ≡ sum_of variables.now.keys (tree_of expr.now)) }
 {
-    match atom_at(tokens, variables) {
-        None => Ok(None),
-        Some((first, behind)) => match addends_from(alloc, behind, variables)? {
+    match expr {
+        Expr::Name { span: _, name } => match variable_named(name, variables) {
             None => Ok(None),
-            Some((more, rest)) => Ok(Some((Sum { first, more }, rest))),
+            Some(base) => Ok(Some(Sum::Variable(base))),
         },
+        Expr::Integer { span: _, constant } => match number_of(*constant) {
+            None => Ok(None),
+            Some(number) => Ok(Some(Sum::Number(number))),
+        },
+        Expr::Parenthesised { span: _, inner } => match sum_of(alloc, inner.get(), variables)? {
+            None => Ok(None),
+            Some(sum) => Ok(Some(Sum::Parenthesised(Boxed::new(alloc, sum)?))),
+        },
+        Expr::Run {
+            span: _,
+            first,
+            more,
+        } => {
+            let Some(sum) = sum_of(alloc, first.get(), variables)? else {
+                return Ok(None);
+            };
+            match addends_of(alloc, more.as_slice(), variables)? {
+                None => Ok(None),
+                Some(addends) => Ok(Some(Sum::Run {
+                    first: Boxed::new(alloc, sum)?,
+                    more: addends,
+                })),
+            }
+        }
+        _ => Ok(None),
     }
 }
 
-/// Two sums with a comparison between, and the tokens behind them.
-#[tactic(auto, unfolding(crate::specs::Reading::test_at))]
-pub fn test_at<'a>(
+// The comparison of an expression with what an operator compares it with.
+fn compared_with(
     alloc: Global,
-    tokens: &'a [Token],
+    first: &Expr,
+    operand: &Operand,
     variables: &IndexSet<Name>,
-) -> Result<Option<(Test, &'a [Token])>, AllocError>
+) -> Result<Option<Test>, AllocError>
     requires { index_set_len variables.now < 2 ^ 32 - 1 }
-    ensures found { IfOk result (λ found. option_map (λ f. (f.0, f.1.now)) found ≡ test_at variables.now.keys tokens.now) }
-    ensures shorter { IfOk result (λ found. IfSome found (λ f. length f.1.now < length tokens.now)) }
+    ensures { IfOk result (λ found. option_map test_tree found ≡ compared_with variables.now.keys (tree_of first.now) (operand_tree operand.now)) }
 {
-    let Some((left, behind)) = sum_at(alloc, tokens, variables)? else {
+    let Some(relation) = relation_of(operand.operator) else {
         return Ok(None);
     };
-    let Some((relation, next)) = relation_at(behind) else {
+    let Some(left) = sum_of(alloc, first, variables)? else {
         return Ok(None);
     };
-    let Some((right, rest)) = sum_at(alloc, next, variables)? else {
-        return Ok(None);
-    };
-    Ok(Some((
-        Test {
+    match sum_of(alloc, &operand.operand, variables)? {
+        None => Ok(None),
+        Some(right) => Ok(Some(Test::Compare {
             left,
             relation,
             right,
-        },
-        rest,
-    )))
-}
-
-/// A test in parentheses that nests at most `budget` deep, and the tokens behind it.
-#[tactic(auto, unfolding(crate::specs::Reading::condition_at))]
-pub fn condition_at<'a>(
-    alloc: Global,
-    tokens: &'a [Token],
-    variables: &IndexSet<Name>,
-    budget: usize,
-) -> Result<Option<(Test, &'a [Token])>, AllocError>
-    requires { index_set_len variables.now < 2 ^ 32 - 1 }
-    ensures found { IfOk result (λ found. option_map (λ f. (f.0, f.1.now)) found ≡ condition_at variables.now.keys budget tokens.now) }
-    ensures shorter { IfOk result (λ found. IfSome found (λ f. length f.1.now < length tokens.now)) }
-{
-    let Some(inner) = behind_punctuator(tokens, Punctuator::OpenParenthesis) else {
-        return Ok(None);
-    };
-    let Some((test, behind)) = test_at(alloc, inner, variables)? else {
-        return Ok(None);
-    };
-    let Some(rest) = behind_punctuator(behind, Punctuator::CloseParenthesis) else {
-        return Ok(None);
-    };
-    if nest_of_test(&test) <= budget {
-        Ok(Some((test, rest)))
-    } else {
-        Ok(None)
+        })),
     }
 }
 
-/// A sum with its semicolon, and the tokens behind them. The sum and `own` nodes above it nest at most `budget` deep.
-#[tactic(auto, unfolding(crate::specs::Reading::value_at))]
-pub fn value_at<'a>(
+// The comparison that a run is, if it is one.
+fn comparison_of(
     alloc: Global,
-    tokens: &'a [Token],
+    first: &Expr,
+    more: &[Operand],
     variables: &IndexSet<Name>,
-    own: usize,
-    budget: usize,
-) -> Result<Option<(Sum, &'a [Token])>, AllocError>
-    requires few { index_set_len variables.now < 2 ^ 32 - 1 }
-    requires small { own ≤ 1 }
-    ensures found { IfOk result (λ found. option_map (λ f. (f.0, f.1.now)) found ≡ value_at variables.now.keys own budget tokens.now) }
-    ensures shorter { IfOk result (λ found. IfSome found (λ f. length f.1.now < length tokens.now)) }
+) -> Result<Option<Test>, AllocError>
+    requires { index_set_len variables.now < 2 ^ 32 - 1 }
+    ensures { IfOk result (λ found. option_map test_tree found ≡ comparison_of variables.now.keys (tree_of first.now) (operands_of more.now)) }
 {
-    let Some((sum, behind)) = sum_at(alloc, tokens, variables)? else {
+    let Some((operand, others)) = more.split_first() else {
         return Ok(None);
     };
-    let Some(rest) = behind_punctuator(behind, Punctuator::Semicolon) else {
-        return Ok(None);
-    };
-    if own + nest_of_sum(&sum) <= budget {
-        Ok(Some((sum, rest)))
-    } else {
-        Ok(None)
+    match others.split_first() {
+        None => compared_with(alloc, first, operand, variables),
+        Some(_) => Ok(None),
+    }
+}
+
+/// The test that an expression is, if it is one.
+#[cycle(testing)]
+pub fn test_of(
+    alloc: Global,
+    expr: &Expr,
+    variables: &IndexSet<Name>,
+) -> Result<Option<Test>, AllocError>
+    requires { index_set_len variables.now < 2 ^ 32 - 1 }
+    ensures { IfOk result (λ found. option_map test_tree found ≡ test_of variables.now.keys (tree_of expr.now)) }
+{
+    match expr {
+        Expr::Parenthesised { span: _, inner } => match test_of(alloc, inner.get(), variables)? {
+            None => Ok(None),
+            Some(test) => Ok(Some(Test::Parenthesised(Boxed::new(alloc, test)?))),
+        },
+        Expr::Run {
+            span: _,
+            first,
+            more,
+        } => comparison_of(alloc, first.get(), more.as_slice(), variables),
+        _ => Ok(None),
     }
 }

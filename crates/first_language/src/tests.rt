@@ -2,7 +2,7 @@ use crate::parse;
 use c_prog::name::Name;
 use c_prog::number::Span;
 use c_prog::token::{IntegerConstant, Keyword, Length, Punctuator, Radix, Token, Word};
-use c_prog::tree::{Program, Stmt};
+use first_program::tree::{Program, Sign, Stmt, Sum};
 use std::alloc::{AllocError, Global};
 use std::test::Fail;
 
@@ -135,6 +135,50 @@ fn an_else_belongs_to_the_nearest_if(rt: HostRuntime) -> Result<(), Fail> {
     Ok(())
 }
 
+// The program of a `return` whose number stands in so many pairs of parentheses.
+fn read_enclosed(alloc: Global, pairs: u32) -> Result<Option<Program>, AllocError> {
+    let mut tokens = Vec::new(alloc);
+    add(alloc, &mut tokens, HEADER)?;
+    add(alloc, &mut tokens, "return")?;
+    for _ in 0..pairs {
+        add(alloc, &mut tokens, "(")?;
+    }
+    add(alloc, &mut tokens, "1")?;
+    for _ in 0..pairs {
+        add(alloc, &mut tokens, ")")?;
+    }
+    add(alloc, &mut tokens, "; }")?;
+    if tokens.len() > 1_000_000 {
+        return Ok(None);
+    }
+    parse(alloc, tokens.as_slice())
+}
+
+#[test]
+fn parentheses_stand_round_parts(rt: HostRuntime) -> Result<(), Fail> {
+    let alloc = rt.alloc();
+    let body = "int x ; x = ( 1 ) - ( x + 1 ) ; if ( ( ( x ) < 1 ) ) return ( ( x ) ) ; }";
+    let Some(program) = read(alloc, body)? else {
+        return Err(Fail::from(AllocError));
+    };
+    let subtracts = match program.body.get(0) {
+        Some(
+            Stmt::Assign {
+                target: _,
+                value: Sum::Run { first: _, more },
+            },
+        ) => match more.get(0) {
+            Some(addend) => {
+                addend.sign == Sign::Minus && matches!(addend.operand, Sum::Parenthesised(_))
+            }
+            None => false,
+        },
+        _ => false,
+    };
+    assert!(rt; subtracts);
+    Ok(())
+}
+
 #[test]
 fn what_is_no_program_is_refused(rt: HostRuntime) -> Result<(), Fail> {
     let alloc = rt.alloc();
@@ -149,6 +193,13 @@ fn what_is_no_program_is_refused(rt: HostRuntime) -> Result<(), Fail> {
         "int x ; if ( x ) x = 1 ; }",
         "int x ; x = 1 + ; }",
         "return 0 ; int x ; }",
+        "int x ; x = ( 1 ; }",
+        "int x ; x = ( ) ; }",
+        "int x ; x = ( x < 1 ) ; }",
+        "int x ; ( x ) = 1 ; }",
+        "int x ; if ( ( x ) ) x = 1 ; }",
+        "int x ; if ( 0 < x < 1 ) x = 1 ; }",
+        "int x ; if ( ( x < 1 ) < 1 ) x = 1 ; }",
     ] {
         assert!(rt; read(alloc, body)?.is_none(), "{body}");
     }
@@ -160,6 +211,8 @@ fn nesting_is_bounded(rt: HostRuntime) -> Result<(), Fail> {
     let alloc = rt.alloc();
     assert!(rt; read_many(alloc, "", "{", 198, "", "}")?.is_some());
     assert!(rt; read_many(alloc, "", "{", 199, "", "}")?.is_none());
+    assert!(rt; read_enclosed(alloc, 196)?.is_some());
+    assert!(rt; read_enclosed(alloc, 197)?.is_none());
     Ok(())
 }
 

@@ -1,5 +1,5 @@
 use Rattle.std.proofs.Common.{◌≡◌}
-use Rattle.c_prog.specs.SourceViews.{program_of}
+use Rattle.first_program.specs.SourceViews.{program_of}
 use Rattle.eva_top.proofs.Answering.{untouched, noted, reported, memory_noted, form_text}
 use Rattle.eva_top.proofs.command.analyse_tokens.Goals as goal
 

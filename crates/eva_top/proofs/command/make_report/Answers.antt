@@ -1,4 +1,4 @@
-use Rattle.c_prog.specs.SourceViews.{program_of}
+use Rattle.first_program.specs.SourceViews.{program_of}
 use Rattle.eva_top.proofs.Answering.{report_made}
 use Rattle.eva_top.proofs.command.make_report.Goals as goal
 

@@ -1,6 +1,6 @@
 use Rattle.std.proofs.Common.{rules, arith, ◌≡◌, ◌<◌, ◌≤◌, ◌∙◌, ℕ, List, [], get_or, length, ap}
-use Rattle.c_prog.specs.Meaning.{meaning_of}
-use Rattle.c_prog.specs.SourceViews.{program_of}
+use Rattle.first_program.specs.Meaning.{meaning_of}
+use Rattle.first_program.specs.SourceViews.{program_of}
 use Rattle.eva_top.specs.Sound.{names_of}
 use Rattle.eva_top.specs.Rows.{contents_of, anything}
 use Rattle.eva_top.proofs.Texts.{row_step, row_end, item_default, contents_at, length-contents}

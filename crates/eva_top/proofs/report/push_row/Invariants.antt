@@ -1,6 +1,6 @@
 use Rattle.std.proofs.Common.{◌≡◌, ◌+◌, ◌++◌, drop, length}
-use Rattle.c_prog.specs.Meaning.{meaning_of}
-use Rattle.c_prog.specs.SourceViews.{program_of}
+use Rattle.first_program.specs.Meaning.{meaning_of}
+use Rattle.first_program.specs.SourceViews.{program_of}
 use Rattle.eva_top.specs.Report.{entries_text}
 use Rattle.eva_top.specs.Sound.{names_of}
 use Rattle.eva_top.specs.Rows.{row_from, contents_of}

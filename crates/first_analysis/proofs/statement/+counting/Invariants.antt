@@ -1,6 +1,6 @@
 use Rattle.std.proofs.Common.{◌≡◌, ◌+◌, ◌<◌, ◌^◌, drop}
-use Rattle.c_prog.specs.Source.{Nothing, count, count_all}
-use Rattle.c_prog.specs.SourceViews.{trees_of}
+use Rattle.first_program.specs.Source.{Nothing, count, count_all}
+use Rattle.first_program.specs.SourceViews.{trees_of}
 use Rattle.first_analysis.specs.Tables.{choice}
 use Rattle.first_analysis.proofs.statement.+counting.Given as goal
 

@@ -1,8 +1,8 @@
 use Rattle.std.proofs.Common.{arith, rules, refl, ◌∙◌, ◌≡◌, ◌<◌, ◌+◌, ◌-◌, [], ◌++◌, map, take, drop, length, append-nil, take_all, drop_of_length-le}
 use Rattle.std.proofs.lemmas.List.{length-map}
-use Rattle.c_prog.specs.declared.tree.Stmt.{the_lemmas}
-use Rattle.c_prog.specs.Source.{Nothing, count}
-use Rattle.c_prog.specs.SourceViews.{tree_of}
+use Rattle.first_program.specs.declared.tree.Stmt.{the_lemmas}
+use Rattle.first_program.specs.Source.{Nothing, count}
+use Rattle.first_program.specs.SourceViews.{tree_of}
 use Rattle.first_analysis.specs.Contents.{HoldsReached}
 use Rattle.first_analysis.specs.Tables.{Reached, choice, last_of, spot_of}
 use Rattle.first_analysis.proofs.Counts.{count_if}

@@ -1,6 +1,6 @@
 use Rattle.std.proofs.Common.{◌≡◌, ◌+◌, List, ◌++◌, length, take, drop, map}
-use Rattle.c_prog.specs.Source.{Stmt, Nothing, count, count_all}
-use Rattle.c_prog.specs.SourceViews.{tree_of, trees_of}
+use Rattle.first_program.specs.Source.{Stmt, Nothing, count, count_all}
+use Rattle.first_program.specs.SourceViews.{tree_of, trees_of}
 use Rattle.first_analysis.specs.Contents.{HoldsReached}
 use Rattle.first_analysis.specs.Flow.{Flow, FlowAll}
 use Rattle.first_analysis.specs.Tables.{Reached, PlaceSpot, Rises, spot_of, choice}

@@ -1,5 +1,5 @@
 use Rattle.std.proofs.Common.{◌≡◌, ℕ, ◌+◌, ◌*◌, ◌<◌, ◌≤◌, suc, [], length, map}
-use Rattle.c_prog.specs.SourceViews.{tree_of}
+use Rattle.first_program.specs.SourceViews.{tree_of}
 use Rattle.first_language.specs.Reading.{stmt_at, arms_at, body_at}
 use Rattle.first_language.specs.Views.{arm_of}
 use Rattle.first_language.proofs.statements.+statements.Given as goal

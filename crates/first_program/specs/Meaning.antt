@@ -4,33 +4,28 @@ use Rattle.c_prog.specs.declared.tree.BinOp.{BinOp}
 use Rattle.c_prog.specs.declared.tree.BinOp.TheVariants.{Add, Sub, Lt, Le, Gt, Ge, Eq, Ne}
 use Rattle.c_prog.specs.declared.tree.IntKind.TheVariants.{Int}
 use Rattle.c_prog.specs.declared.tree.BaseSort.TheVariants.{Local, Func}
-use Rattle.c_prog.specs.declared.tree.Atom.{Atom}
-use Rattle.c_prog.specs.declared.tree.Atom.TheVariants.{Number as AtomNumber, Variable as AtomVariable}
-use Rattle.c_prog.specs.declared.tree.Sign.{Sign}
-use Rattle.c_prog.specs.declared.tree.Sign.TheVariants.{Plus, Minus}
+use Rattle.first_program.specs.declared.tree.Sign.{Sign}
+use Rattle.first_program.specs.declared.tree.Sign.TheVariants.{Plus, Minus}
 use Rattle.c_prog.specs.declared.tree.Rel.{Rel}
 use Rattle.c_prog.specs.declared.tree.Rel.TheVariants.{Lt as RelLt, Le as RelLe, Gt as RelGt, Ge as RelGe, Eq as RelEq, Ne as RelNe}
-use Rattle.c_prog.specs.declared.tree.Addend.{Addend}
-use Rattle.c_prog.specs.declared.tree.Sum.{Sum}
-use Rattle.c_prog.specs.declared.tree.Test.{Test}
-use Rattle.c_prog.specs.Source.{Stmt as SourceStmt, Assign as SourceAssign, Return as SourceReturn, If as SourceIf, While as SourceWhile, Block as SourceBlock, Nothing as SourceNothing, Stmts as SourceStmts, Done as SourceDone, Next as SourceNext, Program as SourceProgram, count, count_all}
+use Rattle.first_program.specs.Source.{Sum, Number as SumNumber, Variable as SumVariable, Parenthesised, Run, Addends, End, Then, Test, Compare, Enclosed, Stmt as SourceStmt, Assign as SourceAssign, Return as SourceReturn, If as SourceIf, While as SourceWhile, Block as SourceBlock, Nothing as SourceNothing, Stmts as SourceStmts, Done as SourceDone, Next as SourceNext, Program as SourceProgram, count, count_all}
 use Rattle.c_prog.specs.Syntax.{Variable, Expr, Number, Load, Binary, Assign, Stmt, Expression, Return, If, While, Block, Nothing, Stmts, Done, Next, Base, Function, Program, numbers_from}
-
-abbrev pub atom_expr : Atom → Expr
-atom_expr (AtomNumber n) = Number Int (pos n)
-atom_expr (AtomVariable base) = Load Int (Variable base.0)
 
 abbrev pub sign_op : Sign → BinOp
 sign_op Plus = Add
 sign_op Minus = Sub
 
 -- a run of additions and subtractions groups from the left (C11 6.5.6)
-abbrev pub run_expr : Expr → List Addend → Expr
-run_expr left [] = left
-run_expr left (a ∷ more) = run_expr (Binary (sign_op a.sign) Int left (atom_expr a.atom)) more
+abbrev mutual
+  pub sum_expr : Sum → Expr
+  sum_expr (SumNumber n) = Number Int (pos n)
+  sum_expr (SumVariable base) = Load Int (Variable base.0)
+  sum_expr (Parenthesised s) = sum_expr s
+  sum_expr (Run s more) = run_expr (sum_expr s) more
 
-abbrev pub sum_expr : Sum → Expr
-sum_expr s = run_expr (atom_expr s.first) s.more
+  pub run_expr : Expr → Addends → Expr
+  run_expr left End = left
+  run_expr left (Then sign s more) = run_expr (Binary (sign_op sign) Int left (sum_expr s)) more
 
 abbrev pub relation_op : Rel → BinOp
 relation_op RelLt = Lt
@@ -41,7 +36,8 @@ relation_op RelEq = Eq
 relation_op RelNe = Ne
 
 abbrev pub test_expr : Test → Expr
-test_expr t = Binary (relation_op t.relation) Int (sum_expr t.left) (sum_expr t.right)
+test_expr (Compare left relation right) = Binary (relation_op relation) Int (sum_expr left) (sum_expr right)
+test_expr (Enclosed t) = test_expr t
 
 -- statements, numbered from `id`
 abbrev mutual

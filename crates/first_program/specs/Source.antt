@@ -2,8 +2,26 @@
 use Rattle.std.specs.Prelude.{ℕ, suc, ◌+◌, List}
 use Rattle.c_prog.specs.declared.number.BaseId.{BaseId}
 use Rattle.c_prog.specs.declared.number.Span.{Span}
-use Rattle.c_prog.specs.declared.tree.Sum.{Sum}
-use Rattle.c_prog.specs.declared.tree.Test.{Test}
+use Rattle.c_prog.specs.declared.tree.Rel.{Rel}
+use Rattle.first_program.specs.declared.tree.Sign.{Sign}
+
+mutual
+  -- A number, a variable, a sum in parentheses, or a run of additions and subtractions from the left (C11 6.5.6).
+  pub data Sum : Type 0 where
+    Number : ℕ → Sum
+    Variable : BaseId → Sum
+    Parenthesised : Sum → Sum
+    Run : Sum → Addends → Sum
+
+  -- what a run goes on with
+  pub data Addends : Type 0 where
+    End : Addends
+    Then : Sign → Sum → Addends → Addends
+
+-- a comparison of two sums (C11 6.5.8 and 6.5.9), or a test in parentheses
+pub data Test : Type 0 where
+  Compare : Sum → Rel → Sum → Test
+  Enclosed : Test → Test
 
 mutual
   -- A statement. A ladder of `if`s is nested in the places of the `else`s; `Nothing` stands where an `if` has no `else`.

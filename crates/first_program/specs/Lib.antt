@@ -1,0 +1,3 @@
+pub mod Source
+pub mod SourceViews
+pub mod Meaning

@@ -1,0 +1,4 @@
+//! Programs of the first language, and in `specs/` the typed programs that they stand for.
+#![tactic(auto)]
+
+pub mod tree;
