@@ -12,9 +12,9 @@ use c_lex::LexFault;
 use c_prog::name::Name;
 use c_prog::number::Span;
 use c_prog::token::Token;
-use first_program::tree::Program;
 use eva_io::sink::{PutFault, Sink, write_whole};
 use eva_io::store::{LoadFault, Store};
+use first_program::tree::Program;
 use std::alloc::{AllocError, Global};
 use std::thread::Threads;
 

@@ -11,10 +11,10 @@ use crate::print::{
 };
 use c_prog::kind::Kind;
 use c_prog::number::{Span, StmtId};
-use first_program::tree::Program;
 use first_analysis::content::{Content, Range};
 use first_analysis::evaluation::Kinds;
 use first_analysis::place::Place;
+use first_program::tree::Program;
 use std::alloc::{AllocError, Global};
 
 // What a row says of a variable; a row that lacks it says nothing.
