@@ -113,13 +113,11 @@ fn add_behind(
 fn add_both(
     alloc: Global,
     out: &mut String,
-    depth: u32,
+    depth: u8,
     names: &mut TypeNames,
     tokens: &[Token],
-) -> Result<(), AllocError>
-    requires { depth < 1000 }
-{
-    match specifiers_within(alloc, depth, names, Purpose::Member, tokens)? {
+) -> Result<(), AllocError> {
+    match specifiers_within(alloc, u32::from(depth), names, Purpose::Member, tokens)? {
         None => out.push_str("none"),
         Some((specifiers, before, rest)) => {
             for each in specifiers.as_slice() {
@@ -134,12 +132,10 @@ fn add_both(
 
 fn shown(
     alloc: Global,
-    depth: u32,
+    depth: u8,
     names: &mut TypeNames,
     source: &[u8],
-) -> Result<String, AllocError>
-    requires { depth < 1000 }
-{
+) -> Result<String, AllocError> {
     let mut out = String::new(alloc);
     if source.len() > 1000 {
         return Ok(out);
