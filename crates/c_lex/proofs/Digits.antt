@@ -2,8 +2,8 @@
 use Rattle.std.proofs.Common.{◌≡◌, ℕ, suc, ◌+◌, ◌-◌, ◌*◌, ◌/◌, ◌<◌, ◌≤◌, nat_le, true, false, cond, List, [], ◌∷◌, length, get_or, drop, Some, None, refl, sym, ◌∙◌, ap, arith, add-one, drop-cons, drop_of_length-le}
 use Rattle.std.proofs.Math.Nat.{mul-le-mul_left}
 use Rattle.std.proofs.lemmas.Bool.Decides.{nat_tests}
-use Rattle.c_prog.specs.declared.token.Radix.{Radix}
-use Rattle.c_prog.specs.declared.token.Radix.TheVariants.{Octal, Decimal, Hexadecimal}
+use Rattle.c_base.specs.declared.token.Radix.{Radix}
+use Rattle.c_base.specs.declared.token.Radix.TheVariants.{Octal, Decimal, Hexadecimal}
 use Rattle.c_lex.specs.Numbers.{is_digit_of, base, digit_value, digits_at, number_after, bounded, value_of}
 
 at_front : (r : Radix) (bs : List ℕ) (i : ℕ) → i < length bs →

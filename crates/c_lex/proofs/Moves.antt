@@ -1,6 +1,6 @@
 -- A file's outcome is one, and moves of the lexer lead to it.
 use Rattle.std.proofs.Common.{◌≡◌, ℕ, zero, suc, ◌+◌, ◌-◌, ◌*◌, ◌<◌, ◌≤◌, Bool, List, [], ◌∷◌, ◌++◌, length, take, drop, Some, refl, sym, ◌∙◌, ap, subst, arith, append-nil, length-append, take_all, drop_of_length-le}
-use Rattle.c_prog.specs.declared.token.Token.{Token}
+use Rattle.c_base.specs.declared.token.Token.{Token}
 use Rattle.c_lex.specs.declared.cut.Cursor.{Cursor}
 use Rattle.c_lex.specs.declared.fault.Flaw.TheVariants.{BadByte as BadByteFlaw, OpenComment as OpenCommentFlaw, OpenString as OpenStringFlaw, BadNumber as BadNumberFlaw}
 use Rattle.c_lex.specs.declared.fault.LexFault.{LexFault}

@@ -1,6 +1,6 @@
 -- Places behind bytes.
 use Rattle.std.proofs.Common.{◌≡◌, ℕ, suc, ◌+◌, ◌<◌, ◌≤◌, ◌==◌, Bool, true, false, cond, List, length, get_or, drop, refl, sym, ◌∙◌, arith, drop-cons, drop_of_length-le}
-use Rattle.c_prog.specs.declared.number.Span.{Span}
+use Rattle.c_base.specs.declared.number.Span.{Span}
 use Rattle.c_lex.specs.Tokens.{after, after_all}
 
 -- the place behind the bytes up to an index, which is no further than that

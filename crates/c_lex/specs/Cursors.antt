@@ -1,6 +1,6 @@
 -- How far the lexer has come in a file's bytes.
 use Rattle.std.specs.Prelude.{◌≡◌, ℕ, ◌+◌, ◌-◌, ◌*◌, ◌≤◌, ◌<◌, true, false, cond, List, length, slice_index, take, drop}
-use Rattle.c_prog.specs.declared.token.Word.TheVariants.{OpenAnnotation, CloseAnnotation}
+use Rattle.c_base.specs.declared.token.Word.TheVariants.{OpenAnnotation, CloseAnnotation}
 use Rattle.c_lex.specs.declared.meaning.Meaning.{Meaning}
 use Rattle.c_lex.specs.declared.meaning.Meaning.TheVariants.{Blank, Gives, Annotates, Wrong}
 use Rattle.c_lex.specs.declared.state.Context.{Context}

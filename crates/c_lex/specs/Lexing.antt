@@ -1,6 +1,6 @@
 -- What the lexer answers: a file's tokens, or why it has none.
 use Rattle.std.specs.Prelude.{◌≡◌, ℕ, ◌≤◌, ◌<◌, List, length}
-use Rattle.c_prog.specs.declared.token.Token.{Token}
+use Rattle.c_base.specs.declared.token.Token.{Token}
 use Rattle.c_lex.specs.declared.fault.LexFault.{LexFault}
 use Rattle.c_lex.specs.declared.fault.LexFault.TheVariants.{BadByte, OpenComment, OpenString, BadNumber, TooMany, Memory}
 use Rattle.c_lex.specs.Tokens.{AreTokensOf, HasFault}

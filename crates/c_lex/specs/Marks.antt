@@ -1,7 +1,7 @@
 -- A piece of a file makes a punctuator exactly where it is spelled like it (C11 6.4.6).
 use Rattle.std.specs.Prelude.{◌≡◌, ℕ, Bool, true, IsTrue, List, ◌++◌, length, take}
-use Rattle.c_prog.specs.declared.token.Punctuator.{Punctuator}
-use Rattle.c_prog.specs.declared.token.Punctuator.TheVariants.{DotDot, Implies, Equivalent}
+use Rattle.c_base.specs.declared.token.Punctuator.{Punctuator}
+use Rattle.c_base.specs.declared.token.Punctuator.TheVariants.{DotDot, Implies, Equivalent}
 use Rattle.c_lex.specs.declared.state.Context.{Context}
 use Rattle.c_lex.specs.declared.state.State.TheVariants.{Mark}
 use Rattle.c_lex.specs.Pieces.{is_inside, IsPiece}

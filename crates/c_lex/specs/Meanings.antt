@@ -1,10 +1,10 @@
 -- What a piece gives: one token or none, the tokens of an annotation, or a fault (C11 6.4).
 use Rattle.std.specs.Prelude.{ℕ, ◌+◌, ◌==◌, nat_lt, Bool, cond, List, [], length, slice_index, Option, None, Some, ◌≤◌, drop}
 use lib.Chars.{codes}
-use Rattle.c_prog.specs.declared.number.Span.{Span}
-use Rattle.c_prog.specs.declared.token.Keyword.{Keyword}
-use Rattle.c_prog.specs.declared.token.IntegerConstant.{IntegerConstant}
-use Rattle.c_prog.specs.declared.token.Word.TheVariants.{Identifier, Keyword as KeywordWord, Punctuator, Integer, Floating, Character as CharacterWord, Text as TextWord, AnnotationWord}
+use Rattle.c_base.specs.declared.number.Span.{Span}
+use Rattle.c_base.specs.declared.token.Keyword.{Keyword}
+use Rattle.c_base.specs.declared.token.IntegerConstant.{IntegerConstant}
+use Rattle.c_base.specs.declared.token.Word.TheVariants.{Identifier, Keyword as KeywordWord, Punctuator, Integer, Floating, Character as CharacterWord, Text as TextWord, AnnotationWord}
 use Rattle.c_lex.specs.declared.fault.Flaw.{Flaw}
 use Rattle.c_lex.specs.declared.fault.Flaw.TheVariants.{BadByte, OpenComment, OpenString, BadNumber}
 use Rattle.c_lex.specs.declared.fault.LexFault.{LexFault}

@@ -1,10 +1,10 @@
 -- Integer and floating constants (C11 6.4.4.1, 6.4.4.2).
 use Rattle.std.specs.Prelude.{ℕ, suc, ◌+◌, ◌-◌, ◌*◌, ◌==◌, nat_le, Bool, true, false, not, cond, ◌&&◌, ◌||◌, List, [], ◌∷◌, length, slice_index, take, drop, Option, None, Some}
-use Rattle.c_prog.specs.declared.token.Radix.{Radix}
-use Rattle.c_prog.specs.declared.token.Radix.TheVariants.{Octal, Decimal, Hexadecimal}
-use Rattle.c_prog.specs.declared.token.Length.{Length}
-use Rattle.c_prog.specs.declared.token.Length.TheVariants.{Plain, Long, LongLong}
-use Rattle.c_prog.specs.declared.token.IntegerConstant.{IntegerConstant}
+use Rattle.c_base.specs.declared.token.Radix.{Radix}
+use Rattle.c_base.specs.declared.token.Radix.TheVariants.{Octal, Decimal, Hexadecimal}
+use Rattle.c_base.specs.declared.token.Length.{Length}
+use Rattle.c_base.specs.declared.token.Length.TheVariants.{Plain, Long, LongLong}
+use Rattle.c_base.specs.declared.token.IntegerConstant.{IntegerConstant}
 use Rattle.c_lex.specs.declared.number.Suffix.{Suffix}
 use Rattle.c_lex.specs.Bytes.{is_digit, is_sign}
 

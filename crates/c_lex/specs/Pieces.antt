@@ -1,8 +1,8 @@
 -- Pieces of a file (C11 6.4): what a byte begins, how a piece goes on, and which piece is the longest.
 use Rattle.std.specs.Prelude.{◌≡◌, [], ◌∷◌, ℕ, zero, suc, ◌≤◌, ◌<◌, ◌==◌, Bool, true, false, not, cond, ◌&&◌, ◌||◌, IsTrue, List, length, slice_index, Option, None, Some}
 use Rattle.std.specs.Option.{option_and_then}
-use Rattle.c_prog.specs.declared.token.Punctuator.{Punctuator}
-use Rattle.c_prog.specs.declared.token.Punctuator.TheVariants.{Dot, Arrow, Increment, Decrement, Ampersand, Star, Plus, Minus, Exclamation, Slash, Percent, ShiftLeft, ShiftRight, Less, Greater, LessEqual, GreaterEqual, Equal, NotEqual, Caret, Bar, AndAnd, OrOr, Ellipsis, Assign, StarAssign, SlashAssign, PercentAssign, PlusAssign, MinusAssign, ShiftLeftAssign, ShiftRightAssign, AmpersandAssign, CaretAssign, BarAssign, DotDot, Implies, Equivalent}
+use Rattle.c_base.specs.declared.token.Punctuator.{Punctuator}
+use Rattle.c_base.specs.declared.token.Punctuator.TheVariants.{Dot, Arrow, Increment, Decrement, Ampersand, Star, Plus, Minus, Exclamation, Slash, Percent, ShiftLeft, ShiftRight, Less, Greater, LessEqual, GreaterEqual, Equal, NotEqual, Caret, Bar, AndAnd, OrOr, Ellipsis, Assign, StarAssign, SlashAssign, PercentAssign, PlusAssign, MinusAssign, ShiftLeftAssign, ShiftRightAssign, AmpersandAssign, CaretAssign, BarAssign, DotDot, Implies, Equivalent}
 use Rattle.c_lex.specs.declared.state.Context.{Context}
 use Rattle.c_lex.specs.declared.state.Context.TheVariants.{Code, LineAnnotation, BlockAnnotation}
 use Rattle.c_lex.specs.declared.state.Quote.{Quote}

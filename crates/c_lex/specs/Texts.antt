@@ -1,6 +1,6 @@
 -- Character constants and string literals (C11 6.4.4.4, 6.4.5).
 use Rattle.std.specs.Prelude.{ℕ, zero, suc, ◌+◌, ◌-◌, ◌<◌, ◌==◌, nat_le, cond, List, [], ◌∷◌, length, slice_index, take, drop, Option, None, Some}
-use Rattle.c_prog.specs.declared.token.Radix.TheVariants.{Octal, Hexadecimal}
+use Rattle.c_base.specs.declared.token.Radix.TheVariants.{Octal, Hexadecimal}
 use Rattle.c_lex.specs.declared.text.Escaped.{Escaped}
 use Rattle.c_lex.specs.declared.text.Contents.{Contents}
 use Rattle.c_lex.specs.declared.text.Contents.TheVariants.{Bytes, WrongAt}

@@ -1,8 +1,8 @@
 -- Names and keywords (C11 6.4.1, 6.4.2).
 use Rattle.std.specs.Prelude.{ℕ, Bool, cond, List, [], ◌∷◌, Option, None, Some, bytes_eq}
 use lib.Chars.{codes}
-use Rattle.c_prog.specs.declared.token.Keyword.{Keyword}
-use Rattle.c_prog.specs.declared.token.Keyword.TheVariants.{Auto, Break, Case, Char, Const, Continue, Default, Do, Double, Else, Enum, Extern, Float, For, Goto, If, Inline, Int, Long, Register, Restrict, Return, Short, Signed, Sizeof, Static, Struct, Switch, Typedef, Union, Unsigned, Void, Volatile, While, Alignas, Alignof, Atomic, Bool as BoolWord, Complex, Generic, Imaginary, Noreturn, StaticAssert, ThreadLocal, Asm, Attribute, BuiltinOffsetof, BuiltinVaList}
+use Rattle.c_base.specs.declared.token.Keyword.{Keyword}
+use Rattle.c_base.specs.declared.token.Keyword.TheVariants.{Auto, Break, Case, Char, Const, Continue, Default, Do, Double, Else, Enum, Extern, Float, For, Goto, If, Inline, Int, Long, Register, Restrict, Return, Short, Signed, Sizeof, Static, Struct, Switch, Typedef, Union, Unsigned, Void, Volatile, While, Alignas, Alignof, Atomic, Bool as BoolWord, Complex, Generic, Imaginary, Noreturn, StaticAssert, ThreadLocal, Asm, Attribute, BuiltinOffsetof, BuiltinVaList}
 use Rattle.c_lex.specs.declared.word.Spelling.{Spelling}
 
 -- the keyword of the first spelling in a table that is the text

@@ -9,8 +9,8 @@ use crate::bytes::{before, byte_at};
 use crate::fault::LexFault;
 use crate::meaning::{Meaning, closing_length, meaning_of};
 use crate::state::{Context, State, begin_with, is_whole, step_with};
-use c_prog::number::Span;
-use c_prog::token::{Token, Word};
+use c_base::number::Span;
+use c_base::token::{Token, Word};
 use std::alloc::{AllocError, Global};
 
 /// The longest piece at the front of some bytes: how many bytes it has, and what they make.

@@ -3,7 +3,7 @@ ghost use Rattle.std.specs.Prelude.{◌≡◌};
 ghost use Rattle.c_lex.specs.declared.fault.LexFault.TheVariants.{Memory};
 ghost use Rattle.c_lex.specs.Meanings.{fault_of};
 
-use c_prog::number::Span;
+use c_base::number::Span;
 use std::alloc::AllocError;
 use thiserror::Error;
 

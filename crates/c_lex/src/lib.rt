@@ -6,7 +6,7 @@ ghost use Rattle.c_lex.specs.Lexing.{AreAnswered, IsRefusal};
 
 use crate::cut::{Cursor, Step, advance};
 pub use crate::fault::LexFault;
-use c_prog::token::Token;
+use c_base::token::Token;
 use std::alloc::{AllocError, Global};
 
 mod bytes;

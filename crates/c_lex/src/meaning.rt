@@ -8,8 +8,8 @@ use crate::number::{is_floating_constant, read_integer};
 use crate::state::{Context, Quote, State};
 use crate::text::{Contents, between_quotes, read_contents, read_escape};
 use crate::word::{find_keyword, is_dropped_name};
-use c_prog::name::Name;
-use c_prog::token::Word;
+use c_base::name::Name;
+use c_base::token::Word;
 use std::alloc::{AllocError, Global};
 
 /// What a piece gives.

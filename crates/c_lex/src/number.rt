@@ -3,7 +3,7 @@ ghost use Rattle.std.specs.Prelude.{◌≡◌, ◌≤◌, length};
 ghost use Rattle.c_lex.specs.Numbers.{is_digit_of, base, digit_value, digits_at, value_of, length_of, suffix_of, constant, constant_with, begins_hexadecimal, integer_of, ends_floating, has_exponent, exponent_digits, exponent_letter, floating_tail, floating, is_floating, is_l, is_u, is_f, with_length};
 
 use crate::bytes::{before, behind, byte_at, is_digit_byte, is_sign_byte};
-use c_prog::token::{IntegerConstant, Length, Radix};
+use c_base::token::{IntegerConstant, Length, Radix};
 
 /// What the suffix of an integer constant says.
 #[derive(Clone, Copy, Debug, PartialEq, Eq)]

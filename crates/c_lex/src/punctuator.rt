@@ -3,7 +3,7 @@ ghost use Rattle.std.specs.Prelude.{◌≡◌};
 ghost use Rattle.c_lex.specs.Marks.{IsSpelled};
 ghost use Rattle.c_lex.specs.Spellings.{spelling};
 
-use c_prog::token::Punctuator;
+use c_base::token::Punctuator;
 
 fn text_of(mark: Punctuator) -> &'static [u8]
     ensures { result.now ≡ spelling mark }

@@ -6,7 +6,7 @@ use crate::bytes::{
     begins_exponent, begins_name, continues_name, is_digit_byte, is_letter_byte, is_sign_byte,
     is_white_byte,
 };
-use c_prog::token::Punctuator;
+use c_base::token::Punctuator;
 
 /// Where a byte stands: in the code, in an annotation `//@ ..`, or in an annotation `/*@ .. */`.
 #[derive(Clone, Copy, Debug, PartialEq, Eq)]

@@ -1,6 +1,6 @@
 //! Outside vectors: what C11 and GCC read in small files.
 use crate::lex;
-use c_prog::token::Word;
+use c_base::token::Word;
 use std::alloc::{AllocError, Global};
 use std::test::Fail;
 

@@ -4,7 +4,7 @@ ghost use Rattle.c_lex.specs.Texts.{simple, numeric, escape_hexadecimal, escape,
 
 use crate::bytes::{before, behind, byte_at};
 use crate::number::{count_digits, read_digits};
-use c_prog::token::Radix;
+use c_base::token::Radix;
 use sqlite_items::Items;
 use std::alloc::{AllocError, Global};
 

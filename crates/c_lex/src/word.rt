@@ -2,7 +2,7 @@
 ghost use Rattle.std.specs.Prelude.{◌≡◌};
 ghost use Rattle.c_lex.specs.Words.{keyword_of, keyword_in, is_dropped};
 
-use c_prog::token::Keyword;
+use c_base::token::Keyword;
 
 /// A spelling of a keyword.
 #[derive(Clone, Copy)]

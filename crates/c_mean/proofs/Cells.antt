@@ -7,9 +7,9 @@ use Rattle.std.specs.Ordering.{nat_cmp, eq_by_cmp}
 use Rattle.std.specs.FinSet.{empty, insert, contains, union, len, empty_of_len, contains-empty, contains-insert, contains-union, len-empty, len-insert, same_set, nat_cmp-IsAntisymmetric}
 use Rattle.std.specs.Cmp.{nat_cmp_total}
 use Rattle.std.proofs.lemmas.Bool.Decides.{nat_tests}
-use Rattle.c_prog.specs.Integers.{bits_from, number_of_bits}
-use Rattle.c_prog.specs.Memories.{overwritten}
-use Rattle.c_prog.specs.Values.{Cell, Uninit, Bit, Provenance, nowhere, piece_of, cells_from, bit_of, provenance_of, united}
+use Rattle.c_base.specs.Integers.{bits_from, number_of_bits}
+use Rattle.c_memory.specs.Memories.{overwritten}
+use Rattle.c_memory.specs.Values.{Cell, Uninit, Bit, Provenance, nowhere, piece_of, cells_from, bit_of, provenance_of, united}
 use Rattle.c_mean.specs.declared.value.Cell.{Cell as CodeCell}
 use Rattle.c_mean.specs.declared.value.Cell.TheVariants.{Uninit as CodeUninit, Bit as CodeBit}
 use Rattle.c_mean.specs.Views.{cell_of, bases_of}

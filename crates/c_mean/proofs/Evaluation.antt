@@ -4,18 +4,18 @@ use Rattle.std.specs.Prelude.{ℤ, MatchResult}
 use Rattle.std.specs.Ordering.{nat_cmp}
 use Rattle.std.specs.Cmp.{nat_cmp_total}
 use Rattle.std.specs.FinSet.{union, same_set, contains-union, contains-empty, nat_cmp-IsAntisymmetric}
-use Rattle.c_prog.specs.declared.tree.IntKind.TheVariants.{Int}
-use Rattle.c_prog.specs.declared.kind.Kind.{Kind}
-use Rattle.c_prog.specs.declared.kind.Kind.TheVariants.{Initialization}
-use Rattle.c_prog.specs.Integers.{fits_kind}
-use Rattle.c_prog.specs.Values.{nowhere, plain}
-use Rattle.c_prog.specs.Layouts.{Layout}
-use Rattle.c_prog.specs.Memories.{Memory, address_of, loaded, stored, with_base, died}
-use Rattle.c_prog.specs.declared.tree.BinOp.{BinOp}
-use Rattle.c_prog.specs.Operators.{computed}
+use Rattle.c_base.specs.declared.integer.IntKind.TheVariants.{Int}
+use Rattle.c_base.specs.declared.kind.Kind.{Kind}
+use Rattle.c_base.specs.declared.kind.Kind.TheVariants.{Initialization}
+use Rattle.c_base.specs.Integers.{fits_kind}
+use Rattle.c_memory.specs.Values.{nowhere, plain}
+use Rattle.c_memory.specs.Layouts.{Layout}
+use Rattle.c_memory.specs.Memories.{Memory, address_of, loaded, stored, with_base, died}
+use Rattle.c_base.specs.declared.operators.BinOp.{BinOp}
+use Rattle.c_base.specs.Operators.{computed}
 use Rattle.c_prog.specs.Syntax.{Variable, Expr, Number, Load, Binary, Assign}
-use Rattle.c_prog.proofs.Tests.{other_test}
-use Rattle.c_prog.proofs.IntMemory.{IsInt, int_cells, FitsContent, loaded_content, loaded_int, stored_int}
+use Rattle.c_base.proofs.Tests.{other_test}
+use Rattle.c_memory.proofs.IntMemory.{IsInt, int_cells, FitsContent, loaded_content, loaded_int, stored_int}
 use Rattle.c_mean.specs.Evaluation.{Env, set, IsVariable, IsPlain, value, combined, content_value}
 use Rattle.c_mean.specs.Machine.{Work, Evaluate, Locate, Fetch, Store, Apply, provenance_after, is_comparison, Deliver, Brace, Exit, fallen, goes_holding, Held, Scalar, State, Outcome, Step, arrival, sites_of, statement_in, exit_of, handed}
 use Rattle.c_mean.proofs.Runs.{Good, lead, lead_from, stop, halt}

@@ -2,11 +2,11 @@
 use Rattle.std.proofs.Common.{◌≡◌, ℕ, zero, suc, ◌+◌, ◌-◌, ◌*◌, ◌<◌, ◌==◌, Bool, true, false, cond, List, [], ◌∷◌, length, map, take, drop, replicate, get_or, None, Some, refl, ◌∙◌, ap, arith}
 use Rattle.std.specs.Prelude.{find, unwrap_or}
 use Rattle.std.specs.List.{list_any}
-use Rattle.c_prog.specs.declared.tree.IntKind.{IntKind}
-use Rattle.c_prog.specs.Integers.{size_of_kind}
-use Rattle.c_prog.specs.Values.{Value, Uninit, value_in}
-use Rattle.c_prog.specs.Layouts.{Layout}
-use Rattle.c_prog.specs.Memories.{Memory, withered, reached, loaded, offset_in}
+use Rattle.c_base.specs.declared.integer.IntKind.{IntKind}
+use Rattle.c_base.specs.Integers.{size_of_kind}
+use Rattle.c_memory.specs.Values.{Value, Uninit, value_in}
+use Rattle.c_memory.specs.Layouts.{Layout}
+use Rattle.c_memory.specs.Memories.{Memory, withered, reached, loaded, offset_in}
 use Rattle.c_prog.specs.Syntax.{numbers_from}
 use Rattle.c_mean.specs.declared.value.Cell.{Cell as CodeCell}
 use Rattle.c_mean.specs.declared.memory.Change.{Change}

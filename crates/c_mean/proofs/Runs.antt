@@ -1,8 +1,8 @@
 -- Runs that meet a table: generic in what covers a memory at a statement and in what an alarm is.
 use Rattle.std.proofs.Common.{◌≡◌, ℕ, zero, suc, List, [], ◌∷◌, length, None, Some, refl}
-use Rattle.c_prog.specs.declared.kind.Kind.{Kind}
-use Rattle.c_prog.specs.Layouts.{Layout}
-use Rattle.c_prog.specs.Memories.{Memory}
+use Rattle.c_base.specs.declared.kind.Kind.{Kind}
+use Rattle.c_memory.specs.Layouts.{Layout}
+use Rattle.c_memory.specs.Memories.{Memory}
 use Rattle.c_mean.specs.Machine.{Held, State, Outcome, Goes, Stops, Step, IsRun, last_of, arrival, sites_of}
 
 module _ (l : Layout) (Covered : ℕ → List ℕ → Memory → Type 0) (Alarmed : Kind → ℕ → List ℕ → Type 0) where

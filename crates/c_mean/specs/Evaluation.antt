@@ -1,11 +1,11 @@
 -- What expressions without effects give where every object is a variable of type int: numbers alone, without cells.
 use Rattle.std.specs.Prelude.{ℕ, ◌≡◌, ◌≤◌, ◌==◌, Bool, cond, not, ℤ, Option, None, Some, Result, Ok, Err}
-use Rattle.c_prog.specs.declared.tree.IntKind.{IntKind}
-use Rattle.c_prog.specs.declared.tree.IntKind.TheVariants.{Int}
-use Rattle.c_prog.specs.declared.tree.BinOp.{BinOp}
-use Rattle.c_prog.specs.declared.kind.Kind.{Kind}
-use Rattle.c_prog.specs.declared.kind.Kind.TheVariants.{Initialization}
-use Rattle.c_prog.specs.Operators.{computed}
+use Rattle.c_base.specs.declared.integer.IntKind.{IntKind}
+use Rattle.c_base.specs.declared.integer.IntKind.TheVariants.{Int}
+use Rattle.c_base.specs.declared.operators.BinOp.{BinOp}
+use Rattle.c_base.specs.declared.kind.Kind.{Kind}
+use Rattle.c_base.specs.declared.kind.Kind.TheVariants.{Initialization}
+use Rattle.c_base.specs.Operators.{computed}
 use Rattle.c_prog.specs.Syntax.{Variable, Expr, Number, Load, Binary, Assign}
 use Rattle.c_mean.specs.Machine.{is_zero}
 

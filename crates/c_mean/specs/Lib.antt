@@ -1,4 +1,3 @@
 pub mod Machine
 pub mod Views
 pub mod Evaluation
-pub mod Wide

@@ -2,15 +2,15 @@
 use Rattle.std.specs.Prelude.{ℕ, ◌≡◌, ◌==◌, Bool, true, false, cond, not, List, [], ◌∷◌, ◌++◌, ℤ, pos, int_le, ◌&&◌, Option, None, Some, Result, Ok, Err}
 use Rattle.std.specs.List.{list_any}
 use Rattle.std.specs.FinSet.{contains, union}
-use Rattle.c_prog.specs.declared.tree.IntKind.{IntKind}
-use Rattle.c_prog.specs.declared.tree.BinOp.{BinOp}
-use Rattle.c_prog.specs.declared.tree.BinOp.TheVariants.{Add, Sub, Mul, Div, Rem, And, Or, Xor, Shl, Shr, Lt, Le, Gt, Ge, Eq, Ne}
-use Rattle.c_prog.specs.declared.kind.Kind.{Kind}
-use Rattle.c_prog.specs.declared.kind.Kind.TheVariants.{Initialization, DanglingPointer}
-use Rattle.c_prog.specs.Values.{Value, plain, Provenance, nowhere, Cell}
-use Rattle.c_prog.specs.Operators.{computed}
-use Rattle.c_prog.specs.Layouts.{Layout}
-use Rattle.c_prog.specs.Memories.{Memory, address_of, loaded, stored, born, died}
+use Rattle.c_base.specs.declared.integer.IntKind.{IntKind}
+use Rattle.c_base.specs.declared.operators.BinOp.{BinOp}
+use Rattle.c_base.specs.declared.operators.BinOp.TheVariants.{Add, Sub, Mul, Div, Rem, And, Or, Xor, Shl, Shr, Lt, Le, Gt, Ge, Eq, Ne}
+use Rattle.c_base.specs.declared.kind.Kind.{Kind}
+use Rattle.c_base.specs.declared.kind.Kind.TheVariants.{Initialization, DanglingPointer}
+use Rattle.c_memory.specs.Values.{Value, plain, Provenance, nowhere, Cell}
+use Rattle.c_base.specs.Operators.{computed}
+use Rattle.c_memory.specs.Layouts.{Layout}
+use Rattle.c_memory.specs.Memories.{Memory, address_of, loaded, stored, born, died}
 use Rattle.c_prog.specs.Syntax.{Place, Variable, Expr, Number, Load, Binary, Assign, Stmt, Expression, Return, If, While, Block, Nothing, Stmts, Done, Next, Function, Program}
 
 -- ---- what is held while expressions are evaluated

@@ -25,10 +25,10 @@ use Rattle.c_mean.specs.declared.work.Outcome.{Outcome as CodeOutcome}
 use Rattle.c_mean.specs.declared.work.Outcome.TheVariants.{Goes as CodeGoes, Stops as CodeStops}
 use Rattle.c_mean.specs.declared.work.Exit.{Exit as CodeExit}
 use Rattle.c_mean.specs.declared.work.Function.{Function as CodeFunction}
-use Rattle.c_prog.specs.declared.kind.Kind.{Kind}
-use Rattle.c_prog.specs.Layouts.{Layout}
-use Rattle.c_prog.specs.Memories.{Memory, with_base, born, died}
-use Rattle.c_prog.specs.Values.{Value, Provenance, Cell, Uninit, Dead, Bit}
+use Rattle.c_base.specs.declared.kind.Kind.{Kind}
+use Rattle.c_memory.specs.Layouts.{Layout}
+use Rattle.c_memory.specs.Memories.{Memory, with_base, born, died}
+use Rattle.c_memory.specs.Values.{Value, Provenance, Cell, Uninit, Dead, Bit}
 use Rattle.c_mean.specs.Machine.{Held, Scalar, Unusable, Cells, Absent, Work, Do, Evaluate, Locate, Fetch, Store, Apply, Discard, Choose, Turn, Deliver, Brace, Close, Frame, Exit, State, Outcome, Goes, Stops}
 use Rattle.c_prog.specs.Syntax.{numbers_from, Variable, Expr, Number as NumberExpr, Load, Binary, Assign, Stmt, Expression, Return, If, While, Block, Nothing, Stmts, Done, Next, Function}
 

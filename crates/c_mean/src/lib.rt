@@ -7,7 +7,6 @@ pub mod memory;
 pub mod number;
 #[cfg(test)]
 mod operator_tests;
-pub mod operators;
 pub mod stack;
 #[cfg(test)]
 mod tests;

@@ -1,7 +1,7 @@
 //! A machine that goes from one state to the next (C11 5.1.2.3, 6.5, 6.8).
 
 ghost use Rattle.std.specs.Prelude.{◌≡◌, map, Some, Ok, IfOk};
-ghost use Rattle.c_prog.specs.Memories as memories;
+ghost use Rattle.c_memory.specs.Memories as memories;
 ghost use Rattle.c_mean.specs.Machine as machine;
 ghost use Rattle.c_mean.specs.Views.{bases_of, expr_of, stmt_of, value_of, held_of, value_result_of, control_of, layout_of, memory_of, state_of, outcome_of, function_of, exit_of_code, Answers};
 
@@ -12,8 +12,9 @@ use crate::stack::Stack;
 use crate::tree::{Expr, Stmt, Stmts};
 use crate::value::{Held, Value, is_touched, plain, used};
 use crate::work::{Exit, Function, Outcome, State, Work, exit_of, queue, sites_of, statement_in};
-use c_prog::kind::Kind;
-use c_prog::tree::{BinOp, IntKind};
+use c_base::integer::IntKind;
+use c_base::kind::Kind;
+use c_base::operators::BinOp;
 use sqlite_items::Items;
 use std::alloc::{AllocError, Global};
 use std::rc::Rc;

@@ -2,18 +2,18 @@
 
 ghost use Rattle.std.specs.Prelude.{◌≡◌, [], ◌==◌, ◌*◌, ◌+◌, ◌<◌, ◌≤◌, ◌^◌, length, map, take, drop, replicate, find, unwrap_or, Option, IfOk};
 ghost use Rattle.std.specs.List.{list_any};
-ghost use Rattle.c_prog.specs.Integers as integers;
+ghost use Rattle.c_base.specs.Integers as integers;
 ghost use Rattle.c_prog.specs.Syntax.{numbers_from};
-ghost use Rattle.c_prog.specs.Values as values;
-ghost use Rattle.c_prog.specs.Memories as memories;
+ghost use Rattle.c_memory.specs.Values as values;
+ghost use Rattle.c_memory.specs.Memories as memories;
 ghost use Rattle.c_mean.specs.Views.{number_of, value_of, cell_of, cells_option_of, value_result_of, layout_of, object_at, memory_of, memory_result_of};
 
 use crate::layout::{Layout, Object};
 use crate::number::{Number, size_of_kind};
 use crate::stack::Stack;
 use crate::value::{Cell, Value, add_cells, cells_of, contains, is_named, value_in, withered};
-use c_prog::kind::Kind;
-use c_prog::tree::IntKind;
+use c_base::integer::IntKind;
+use c_base::kind::Kind;
 use sqlite_items::Items;
 use std::alloc::{AllocError, Global};
 

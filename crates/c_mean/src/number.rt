@@ -1,15 +1,15 @@
 //! Numbers by sign and size, with room for each number of each integer type.
 
 ghost use Rattle.std.specs.Prelude.{◌≡◌, ◌<◌, ◌≤◌, ◌^◌, ◌*◌, ◌+◌, pos, negsuc, ◌+ℤ◌, ◌-ℤ◌, int_le, int_lt, cond, Some, None};
-ghost use Rattle.c_prog.specs.Integers as integers;
-ghost use Rattle.c_prog.specs.Operators as operators;
+ghost use Rattle.c_base.specs.Integers as integers;
+ghost use Rattle.c_base.specs.Operators as operators;
 ghost use Rattle.c_mean.specs.Machine as machine;
 ghost use Rattle.c_mean.specs.Views.{number_of, number_result_of};
-ghost use Rattle.c_mean.specs.Wide.{IsOperand};
+ghost use Rattle.c_base.specs.Wide.{IsOperand};
 
-use crate::operators::compute;
-use c_prog::kind::Kind;
-use c_prog::tree::{BinOp, IntKind};
+use c_base::integer::IntKind;
+use c_base::kind::Kind;
+use c_base::operators::{BinOp, compute};
 
 /// A number from -2^64 to 2^64 - 1: `Natural(n)` is n, and `Negative(n)` is -1 - n.
 #[derive(Clone, Copy, Debug, PartialEq, Eq)]

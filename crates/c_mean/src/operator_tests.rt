@@ -1,6 +1,6 @@
-use crate::operators::{apply_binary, apply_unary, convert};
-use c_prog::kind::Kind;
-use c_prog::tree::{BinOp, IntKind, Machine, UnOp};
+use c_base::integer::{IntKind, Machine};
+use c_base::kind::Kind;
+use c_base::operators::{BinOp, UnOp, apply_binary, apply_unary, convert};
 
 const M: Machine = Machine::Lp64;
 

@@ -1,7 +1,8 @@
 //! Expressions and statements. Their parts are shared, since a `while` is carried out again and again.
 
 use crate::number::Number;
-use c_prog::tree::{BinOp, IntKind};
+use c_base::integer::IntKind;
+use c_base::operators::BinOp;
 use sqlite_items::Items;
 use std::rc::Rc;
 

@@ -4,14 +4,14 @@ ghost use Rattle.std.specs.Prelude.{◌≡◌, ◌==◌, ◌≤◌, ◌*◌, ◌
 ghost use Rattle.std.specs.List.{list_any};
 ghost use Rattle.std.specs.Ordering.{nat_cmp};
 ghost use Rattle.std.specs.FinSet as sets;
-ghost use Rattle.c_prog.specs.Integers as integers;
-ghost use Rattle.c_prog.specs.Values as values;
+ghost use Rattle.c_base.specs.Integers as integers;
+ghost use Rattle.c_memory.specs.Values as values;
 ghost use Rattle.c_mean.specs.Machine as machine;
 ghost use Rattle.c_mean.specs.Views.{number_of, bases_of, value_of, cell_of, held_of, value_result_of};
 
 use crate::number::{Number, number_in, pattern_of, size_of_kind};
-use c_prog::kind::Kind;
-use c_prog::tree::IntKind;
+use c_base::integer::IntKind;
+use c_base::kind::Kind;
 use sqlite_items::Items;
 use std::alloc::{AllocError, Global};
 

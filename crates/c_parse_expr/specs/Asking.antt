@@ -1,6 +1,6 @@
 -- What the code's reader of trees is asked for, and what it answers.
 use Rattle.std.specs.Prelude.{ℕ, ◌≡◌, List, Option, Result, IfOk, IfSome, IfNone, ⊤}
-use Rattle.c_prog.specs.declared.token.Token.{Token}
+use Rattle.c_base.specs.declared.token.Token.{Token}
 use Rattle.c_tree.specs.Trees.{Tree}
 use Rattle.c_tree.specs.Views.{declarator_tree, specifier_tree, tree_of, type_name_tree}
 use Rattle.c_tree.specs.WellFormed.{Names}

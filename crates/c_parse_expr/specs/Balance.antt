@@ -1,7 +1,7 @@
 -- The words of an attribute, read one by one.
 use Rattle.std.specs.Prelude.{ℕ, List, [], ◌++◌, Option, None, Some}
-use Rattle.c_prog.specs.declared.token.Token.{Token}
-use Rattle.c_prog.specs.declared.token.Word.{Word}
+use Rattle.c_base.specs.declared.token.Token.{Token}
+use Rattle.c_base.specs.declared.token.Word.{Word}
 use Rattle.c_parse_expr.specs.TypeRules.{with_word}
 
 -- what the words come to where so many parentheses are open behind the first, which is none of them where that is `None`

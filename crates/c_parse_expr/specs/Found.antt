@@ -1,7 +1,7 @@
 -- What it is that tokens begin with an expression.
 use Rattle.std.specs.Prelude.{ℕ, ◌≤◌, ◌≡◌, List, [], ◌∷◌, length, Option, None, Some}
-use Rattle.c_prog.specs.declared.number.Span.{Span}
-use Rattle.c_prog.specs.declared.token.Token.{Token}
+use Rattle.c_base.specs.declared.number.Span.{Span}
+use Rattle.c_base.specs.declared.token.Token.{Token}
 use Rattle.c_tree.specs.Spelling.{Piece, pieces}
 use Rattle.c_tree.specs.Trees.{Tree}
 use Rattle.c_tree.specs.WellFormed.{Names, IsWithin}

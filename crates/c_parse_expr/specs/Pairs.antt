@@ -1,8 +1,8 @@
 -- What stands behind a condition, and behind the target of an assignment.
 use Rattle.std.specs.Prelude.{ℕ, max, ◌≡◌, ◌<◌, List, length, Option, None, Some, option_map, IfSome, ⊤}
-use Rattle.c_prog.specs.declared.number.Span.{Span}
-use Rattle.c_prog.specs.declared.token.Punctuator.TheVariants as mark
-use Rattle.c_prog.specs.declared.token.Token.{Token}
+use Rattle.c_base.specs.declared.number.Span.{Span}
+use Rattle.c_base.specs.declared.token.Punctuator.TheVariants as mark
+use Rattle.c_base.specs.declared.token.Token.{Token}
 use Rattle.c_tree.specs.declared.operator.AssignmentOperator.{AssignmentOperator}
 use Rattle.c_tree.specs.Nesting.{nest}
 use Rattle.c_tree.specs.Trees.{Tree, Conditional}

@@ -1,6 +1,6 @@
 -- The parsers of trees that nest at most so deep.
 use Rattle.std.specs.Prelude.{ℕ, zero, suc, List, Option, None}
-use Rattle.c_prog.specs.declared.token.Token.{Token}
+use Rattle.c_base.specs.declared.token.Token.{Token}
 use Rattle.c_tree.specs.WellFormed.{Names, Purpose, ForType, Before}
 use Rattle.c_parse_expr.specs.Rules.{Found, expr_rule}
 use Rattle.c_parse_expr.specs.TypeRules.{type_rule, specifier_rule, declarator_rule}

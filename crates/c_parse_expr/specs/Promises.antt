@@ -1,6 +1,6 @@
 -- What the parsers promise their callers.
 use Rattle.std.specs.Prelude.{ℕ, ◌≡◌, false, List, Option, None, Some, IsTrue}
-use Rattle.c_prog.specs.declared.token.Token.{Token}
+use Rattle.c_base.specs.declared.token.Token.{Token}
 use Rattle.c_tree.specs.Trees.{Tree}
 use Rattle.c_tree.specs.WellFormed.{Names, Purpose, after}
 use Rattle.c_parse_expr.specs.Found.{HasNone, IsFront, IsLongest}

@@ -1,6 +1,6 @@
 -- What the code's readers answer.
 use Rattle.std.specs.Prelude.{◌≡◌, ◌<◌, ◌≤◌, List, length, map, Option, None, Some, Result, Ok, option_map, IfSome, ⊤}
-use Rattle.c_prog.specs.declared.token.Token.{Token}
+use Rattle.c_base.specs.declared.token.Token.{Token}
 use Rattle.c_tree.specs.Nesting.{nest, nest_all}
 use Rattle.c_tree.specs.Trees.{Tree}
 use Rattle.c_tree.specs.Views.{listed}

@@ -1,15 +1,15 @@
 -- What the first token of a list is, and what is left behind it.
 use Rattle.std.specs.Prelude.{ℕ, nat_eq, Bool, true, false, cond, ◌||◌, List, [], ◌∷◌, Option, None, Some, option_map}
 use denote.Enum.Bare.{sameb}
-use Rattle.c_prog.specs.contracts.token.Keyword.{the_type as key_type}
-use Rattle.c_prog.specs.contracts.token.Punctuator.{the_type as mark_type}
-use Rattle.c_prog.specs.declared.token.Keyword.{Keyword}
-use Rattle.c_prog.specs.declared.token.Keyword.TheVariants as key
-use Rattle.c_prog.specs.declared.token.Punctuator.{Punctuator}
-use Rattle.c_prog.specs.declared.token.Punctuator.TheVariants as mark
-use Rattle.c_prog.specs.declared.token.Token.{Token}
-use Rattle.c_prog.specs.declared.token.Word.{Word}
-use Rattle.c_prog.specs.declared.token.Word.TheVariants as word
+use Rattle.c_base.specs.contracts.token.Keyword.{the_type as key_type}
+use Rattle.c_base.specs.contracts.token.Punctuator.{the_type as mark_type}
+use Rattle.c_base.specs.declared.token.Keyword.{Keyword}
+use Rattle.c_base.specs.declared.token.Keyword.TheVariants as key
+use Rattle.c_base.specs.declared.token.Punctuator.{Punctuator}
+use Rattle.c_base.specs.declared.token.Punctuator.TheVariants as mark
+use Rattle.c_base.specs.declared.token.Token.{Token}
+use Rattle.c_base.specs.declared.token.Word.{Word}
+use Rattle.c_base.specs.declared.token.Word.TheVariants as word
 use Rattle.c_tree.specs.declared.operator.AssignmentOperator.{AssignmentOperator}
 use Rattle.c_tree.specs.declared.operator.AssignmentOperator.TheVariants as assignment
 use Rattle.c_tree.specs.declared.operator.BinaryOperator.{BinaryOperator}

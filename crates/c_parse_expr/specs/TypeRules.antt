@@ -1,13 +1,13 @@
 -- The rules of what type names reach (C11 6.7.2 to 6.7.7), as functions. All of it stands between brackets or before a `;`, so that one
 -- tree at most has given tokens: what is read inside may nest too deep, and the whole is measured where it ends.
 use Rattle.std.specs.Prelude.{ℕ, zero, suc, nat_le, nat_lt, Bool, true, false, cond, ◌&&◌, ◌||◌, not, List, [], ◌∷◌, ◌++◌, length, Option, None, Some}
-use Rattle.c_prog.specs.declared.number.Span.{Span}
-use Rattle.c_prog.specs.declared.token.Keyword.{Keyword}
-use Rattle.c_prog.specs.declared.token.Keyword.TheVariants as key
-use Rattle.c_prog.specs.declared.token.Punctuator.TheVariants as mark
-use Rattle.c_prog.specs.declared.token.Token.{Token}
-use Rattle.c_prog.specs.declared.token.Word.{Word}
-use Rattle.c_prog.specs.declared.token.Word.TheVariants as word
+use Rattle.c_base.specs.declared.number.Span.{Span}
+use Rattle.c_base.specs.declared.token.Keyword.{Keyword}
+use Rattle.c_base.specs.declared.token.Keyword.TheVariants as key
+use Rattle.c_base.specs.declared.token.Punctuator.TheVariants as mark
+use Rattle.c_base.specs.declared.token.Token.{Token}
+use Rattle.c_base.specs.declared.token.Word.{Word}
+use Rattle.c_base.specs.declared.token.Word.TheVariants as word
 use Rattle.c_tree.specs.declared.tree.Attribute.{Attribute as CodeAttribute}
 use Rattle.c_tree.specs.declared.tree.CompositeSort.{CompositeSort}
 use Rattle.c_tree.specs.declared.tree.CompositeSort.TheVariants as sort

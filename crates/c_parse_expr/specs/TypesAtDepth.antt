@@ -1,10 +1,10 @@
 -- The rules of what type names reach, for parts that are at most so deep.
 use Rattle.std.specs.Prelude.{ℕ, suc, Bool, cond, List, [], ◌∷◌, length, Option, None, Some}
-use Rattle.c_prog.specs.declared.number.Span.{Span}
-use Rattle.c_prog.specs.declared.token.Keyword.{Keyword}
-use Rattle.c_prog.specs.declared.token.Punctuator.TheVariants as mark
-use Rattle.c_prog.specs.declared.token.Token.{Token}
-use Rattle.c_prog.specs.declared.token.Word.{Word}
+use Rattle.c_base.specs.declared.number.Span.{Span}
+use Rattle.c_base.specs.declared.token.Keyword.{Keyword}
+use Rattle.c_base.specs.declared.token.Punctuator.TheVariants as mark
+use Rattle.c_base.specs.declared.token.Token.{Token}
+use Rattle.c_base.specs.declared.token.Word.{Word}
 use Rattle.c_tree.specs.declared.tree.Attribute.{Attribute as CodeAttribute}
 use Rattle.c_tree.specs.declared.tree.CompositeSort.{CompositeSort}
 use Rattle.c_tree.specs.declared.tree.Pointer.{Pointer}

@@ -5,8 +5,8 @@ ghost use Rattle.c_parse_expr.specs.Balance.{stepped};
 ghost use Rattle.c_parse_expr.specs.TypeRules.{array_words, attribute_at, attribute_behind, attributes_at, balanced, balanced_with, first_span, keyword_at, pointer_at, pointers, qualifier_at, qualifiers};
 
 use crate::words::{behind_punctuator, is_keyword, is_punctuator, is_qualifier};
-use c_prog::number::Span;
-use c_prog::token::{Keyword, Punctuator, Token, Word};
+use c_base::number::Span;
+use c_base::token::{Keyword, Punctuator, Token, Word};
 use c_tree::tree::{Attribute, Pointer, Qualifier};
 use sqlite_items::Items;
 use std::alloc::{AllocError, Global};

@@ -9,7 +9,7 @@ ghost use Rattle.c_parse_expr.specs.Reads.{IsFound};
 use crate::found::Found;
 use crate::names::TypeNames;
 use crate::purpose::{Before, Purpose};
-use c_prog::token::Token;
+use c_base::token::Token;
 use c_tree::tree::{Declarator, Expr, Specifier, TypeName};
 use std::alloc::{AllocError, Global};
 

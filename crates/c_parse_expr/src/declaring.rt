@@ -18,7 +18,7 @@ use crate::purpose::{Before, Purpose};
 use crate::reader::{Reader, as_declarator, read_at};
 use crate::scope::close;
 use crate::specified::{is_none, specifiers_below};
-use c_prog::token::Token;
+use c_base::token::Token;
 use c_tree::tree::{Declarator, Specifier};
 use sqlite_items::Items;
 use std::alloc::{AllocError, Global};

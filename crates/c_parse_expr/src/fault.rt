@@ -2,7 +2,7 @@
 ghost use Rattle.std.specs.Prelude.{◌≡◌};
 ghost use Rattle.c_parse_expr.specs.declared.fault.ParseFault.TheVariants.{Memory};
 
-use c_prog::number::Span;
+use c_base::number::Span;
 use std::alloc::AllocError;
 use thiserror::Error;
 

@@ -1,6 +1,6 @@
 //! What a reader finds.
 
-use c_prog::token::Token;
+use c_base::token::Token;
 use sqlite_items::Items;
 
 /// A tree at the front of some tokens, how deep it is, and the tokens behind it.

@@ -4,7 +4,7 @@ ghost use Rattle.indexmap.specs.IndexMap.{get};
 ghost use Rattle.c_tree.specs.WellFormed.{is_typedef};
 ghost use Rattle.c_parse_expr.specs.KnownNames.{kept, a_use};
 
-use c_prog::name::Name;
+use c_base::name::Name;
 use indexmap::IndexMap;
 use std::alloc::{AllocError, Global};
 use std::marker::Model;

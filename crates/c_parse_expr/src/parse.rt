@@ -14,8 +14,8 @@ use crate::fault::ParseFault;
 use crate::names::TypeNames;
 use crate::purpose::Purpose;
 use crate::reader::{as_expr, as_typing, read_at};
-use c_prog::number::Span;
-use c_prog::token::Token;
+use c_base::number::Span;
+use c_base::token::Token;
 use c_tree::tree::{Expr, TypeName};
 use std::alloc::{AllocError, Global};
 

@@ -16,7 +16,7 @@ use crate::purpose::{Before, Purpose};
 use crate::scope::close;
 use crate::specifiers::specifier_rule;
 use crate::type_names::type_rule;
-use c_prog::token::Token;
+use c_base::token::Token;
 use c_tree::tree::{Declarator, Expr, Specifier, TypeName};
 use std::alloc::{AllocError, Global};
 

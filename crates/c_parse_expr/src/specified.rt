@@ -14,7 +14,7 @@ use crate::height::{deeper, flat};
 use crate::names::TypeNames;
 use crate::purpose::{Before, Purpose};
 use crate::words::is_type_word;
-use c_prog::token::Token;
+use c_base::token::Token;
 use c_tree::tree::Specifier;
 use sqlite_items::Items;
 use std::alloc::{AllocError, Global};

@@ -1,7 +1,7 @@
 //! Prefix operators and casts (C11 6.5.3 and 6.5.4).
 ghost use Rattle.std.specs.Prelude.{◌≡◌, ◌∷◌, IfOk};
-ghost use Rattle.c_prog.specs.declared.token.Punctuator.TheVariants as mark;
-ghost use Rattle.c_prog.specs.declared.token.Word.TheVariants as word;
+ghost use Rattle.c_base.specs.declared.token.Punctuator.TheVariants as mark;
+ghost use Rattle.c_base.specs.declared.token.Word.TheVariants as word;
 ghost use Rattle.c_tree.specs.Trees.{Prefix, OfType, Cast};
 ghost use Rattle.c_tree.specs.Views.{tree_of, type_name_tree};
 ghost use Rattle.c_tree.specs.WellFormed.{level_behind};
@@ -16,8 +16,8 @@ use crate::names::TypeNames;
 use crate::primary::primary_at;
 use crate::purpose::Purpose;
 use crate::words::{behind_punctuator, is_type_at, prefix_of};
-use c_prog::number::Span;
-use c_prog::token::{Keyword, Punctuator, Token, Word};
+use c_base::number::Span;
+use c_base::token::{Keyword, Punctuator, Token, Word};
 use c_tree::operator::{PrefixOperator, TypeOperator};
 use c_tree::tree::{Expr, TypeName};
 use sqlite_items::Boxed;

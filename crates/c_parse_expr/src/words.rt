@@ -4,8 +4,8 @@ ghost use Rattle.c_tree.specs.WellFormed.{level_of_operator, is_qualifier, is_ty
 ghost use Rattle.c_parse_expr.specs.Tokens.{behind_key, behind_mark, is_key, is_mark, name_at, literal_at, binary_of, of_level, operator_of, operator_at, assignment_of, assigning_of, assigning_at, prefix_of, specifies, begins_type, is_type_at};
 
 use crate::names::TypeNames;
-use c_prog::name::Name;
-use c_prog::token::{Keyword, Punctuator, Token, Word};
+use c_base::name::Name;
+use c_base::token::{Keyword, Punctuator, Token, Word};
 use c_tree::operator::{AssignmentOperator, BinaryOperator, PrefixOperator};
 use sqlite_items::Items;
 

@@ -1,12 +1,12 @@
 //! What specifiers and declarators are (C11 6.7.2 to 6.7.6): each specifier, what stands before the declarator, the declarator, and how
 //! many tokens are left.
 use crate::tests::{Case, add_name, names};
+use c_base::name::Name;
+use c_base::token::Token;
 use c_lex::lex;
 use c_parse_expr::declaring::{declarator_within, specifiers_within};
 use c_parse_expr::names::TypeNames;
 use c_parse_expr::purpose::{Before, Purpose};
-use c_prog::name::Name;
-use c_prog::token::Token;
 use c_tree::tree::{Core, Declarator, Specifier, Suffix};
 use std::alloc::{AllocError, Global};
 use std::test::Fail;

@@ -1,8 +1,8 @@
 //! How expressions group by C11 6.5: braces stand round each node of several parts, and a number says how many tokens are left.
+use c_base::name::Name;
 use c_lex::lex;
 use c_parse_expr::names::TypeNames;
 use c_parse_expr::parse::parse_expr;
-use c_prog::name::Name;
 use c_tree::tree::{Expr, Operand, PostfixPart};
 use std::alloc::{AllocError, Global};
 use std::test::Fail;

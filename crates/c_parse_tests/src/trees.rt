@@ -1,8 +1,8 @@
 //! The tree of `f(a, "x" "y")[1] + (char *)c`, its words and its depth, counted by hand.
 
-use c_prog::name::Name;
-use c_prog::number::Span;
-use c_prog::token::{IntegerConstant, Keyword, Length, Radix};
+use c_base::name::Name;
+use c_base::number::Span;
+use c_base::token::{IntegerConstant, Keyword, Length, Radix};
 use c_tree::operator::BinaryOperator;
 use c_tree::tree::{Core, Declarator, Expr, Operand, Pointer, PostfixPart, Specifier, TypeName};
 use sqlite_items::{Boxed, Items};

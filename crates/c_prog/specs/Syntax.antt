@@ -1,12 +1,12 @@
 -- Typed programs, as the meaning sees them: names are resolved to bases, statements are numbered in source order, each conversion is a
 -- node, and runs of operators are nested to the left.
 use Rattle.std.specs.Prelude.{ℕ, zero, suc, ◌+◌, ◌^◌, ◌<◌, ◌≤◌, ◌≡◌, ◌≢◌, ◌⊎◌, Bool, true, false, List, [], ◌∷◌, length, ℤ, Option, None, Some}
-use Rattle.c_prog.specs.declared.tree.IntKind.{IntKind}
-use Rattle.c_prog.specs.declared.tree.BinOp.{BinOp}
-use Rattle.c_prog.specs.declared.tree.BaseSort.{BaseSort}
-use Rattle.c_prog.specs.declared.tree.BaseSort.TheVariants.{Static, Local, Formal, Text, Func, Context}
-use Rattle.c_prog.specs.declared.number.Span.{Span}
-use Rattle.c_prog.specs.Layouts.{Layout}
+use Rattle.c_base.specs.declared.integer.IntKind.{IntKind}
+use Rattle.c_base.specs.declared.operators.BinOp.{BinOp}
+use Rattle.c_prog.specs.declared.base.BaseSort.{BaseSort}
+use Rattle.c_prog.specs.declared.base.BaseSort.TheVariants.{Static, Local, Formal, Text, Func, Context}
+use Rattle.c_base.specs.declared.number.Span.{Span}
+use Rattle.c_memory.specs.Layouts.{Layout}
 
 mutual
   -- an lvalue

@@ -1,8 +1,8 @@
 -- The trees of expressions and of what type names reach, as plain trees. An optional part is a list of at most one.
 use Rattle.std.specs.Prelude.{ℕ, Bool, List, Option}
-use Rattle.c_prog.specs.declared.number.Span.{Span}
-use Rattle.c_prog.specs.declared.token.IntegerConstant.{IntegerConstant}
-use Rattle.c_prog.specs.declared.token.Keyword.{Keyword}
+use Rattle.c_base.specs.declared.number.Span.{Span}
+use Rattle.c_base.specs.declared.token.IntegerConstant.{IntegerConstant}
+use Rattle.c_base.specs.declared.token.Keyword.{Keyword}
 use Rattle.c_tree.specs.declared.operator.AssignmentOperator.{AssignmentOperator}
 use Rattle.c_tree.specs.declared.operator.BinaryOperator.{BinaryOperator}
 use Rattle.c_tree.specs.declared.operator.PrefixOperator.{PrefixOperator}

@@ -6,7 +6,7 @@ use crate::tree::{
     Attribute, Core, Declarator, Enumerator, Expr, Field, Member, Operand, Pointer, PostfixPart,
     Qualifier, Specifier, Suffix, TypeName,
 };
-use c_prog::name::Name;
+use c_base::name::Name;
 use sqlite_items::{Boxed, Items};
 use std::alloc::{AllocError, Global};
 

@@ -2,7 +2,7 @@
 ghost use Rattle.std.specs.Prelude.{◌≡◌};
 ghost use Rattle.c_tree.specs.Spelling.{word_of_prefix, word_of_type_operator, mark_of_binary, mark_of_assignment};
 
-use c_prog::token::{Keyword, Punctuator, Word};
+use c_base::token::{Keyword, Punctuator, Word};
 
 /// What stands before an operand (C11 6.5.3).
 #[derive(Clone, Copy, Debug, PartialEq, Eq)]

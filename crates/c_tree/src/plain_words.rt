@@ -1,14 +1,14 @@
 //! The words of what has no trees in it.
 ghost use Rattle.std.specs.Prelude.{◌≡◌, ◌∷◌, ◌++◌, [], OnOk, IfOk};
-ghost use Rattle.c_prog.specs.declared.token.Keyword.TheVariants as key;
-ghost use Rattle.c_prog.specs.declared.token.Punctuator.TheVariants as mark;
-ghost use Rattle.c_prog.specs.declared.token.Word.TheVariants as word;
+ghost use Rattle.c_base.specs.declared.token.Keyword.TheVariants as key;
+ghost use Rattle.c_base.specs.declared.token.Punctuator.TheVariants as mark;
+ghost use Rattle.c_base.specs.declared.token.Word.TheVariants as word;
 ghost use Rattle.c_tree.specs.Spelling.{words_of, pieces_of_literals, pieces_of_text, pieces_of_words, pieces_of_attribute, pieces_of_attributes, pieces_of_keywords, pieces_of_qualifier, pieces_of_qualifiers, pieces_of_pointers, pieces_of_tag, pieces_where, sign, keyword_of_sort};
 
 use crate::tree::{Attribute, CompositeSort, Pointer, Qualifier};
-use c_prog::name::Name;
-use c_prog::number::Span;
-use c_prog::token::{Keyword, Punctuator, Word};
+use c_base::name::Name;
+use c_base::number::Span;
+use c_base::token::{Keyword, Punctuator, Word};
 use sqlite_items::Items;
 use std::alloc::{AllocError, Global};
 

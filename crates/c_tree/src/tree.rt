@@ -6,9 +6,9 @@ ghost use Rattle.c_tree.specs.Views.{tree_of};
 ghost use Rattle.c_tree.specs.WellFormed.{place_of};
 
 use crate::operator::{AssignmentOperator, BinaryOperator, PrefixOperator, TypeOperator};
-use c_prog::name::Name;
-use c_prog::number::Span;
-use c_prog::token::{IntegerConstant, Keyword, Word};
+use c_base::name::Name;
+use c_base::number::Span;
+use c_base::token::{IntegerConstant, Keyword, Word};
 use sqlite_items::{Boxed, Items};
 
 /// An expression (C11 6.5).

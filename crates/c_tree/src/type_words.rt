@@ -1,7 +1,7 @@
 //! The words that type names and their parts spell.
 ghost use Rattle.std.specs.Prelude.{◌≡◌, ◌∷◌, ◌++◌, [], false, OnOk};
-ghost use Rattle.c_prog.specs.declared.token.Punctuator.TheVariants as mark;
-ghost use Rattle.c_prog.specs.declared.token.Word.TheVariants as word;
+ghost use Rattle.c_base.specs.declared.token.Punctuator.TheVariants as mark;
+ghost use Rattle.c_base.specs.declared.token.Word.TheVariants as word;
 ghost use Rattle.c_tree.specs.Spelling.{words_of, pieces, pieces_of_all, pieces_behind, pieces_with_commas, pieces_where, sign};
 ghost use Rattle.c_tree.specs.Views.{type_name_tree, specifier_tree, enumerator_tree, member_tree, field_tree, declarator_tree, core_tree, suffix_tree, specifiers_of, enumerators_of, members_of, fields_of, suffixes_of, parameters_of, optional_expr, optional_declarator};
 
@@ -11,7 +11,7 @@ use crate::plain_words::{
 };
 use crate::tree::{Core, Declarator, Enumerator, Expr, Field, Member, Specifier, Suffix, TypeName};
 use crate::words::expr;
-use c_prog::token::{Keyword, Punctuator, Word};
+use c_base::token::{Keyword, Punctuator, Word};
 use sqlite_items::Items;
 use std::alloc::{AllocError, Global};
 

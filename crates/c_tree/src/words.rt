@@ -1,14 +1,14 @@
 //! Which words a tree spells.
 ghost use Rattle.std.specs.Prelude.{◌≡◌, ◌∷◌, ◌++◌, [], OnOk, IfOk};
-ghost use Rattle.c_prog.specs.declared.token.Punctuator.TheVariants as mark;
-ghost use Rattle.c_prog.specs.declared.token.Word.TheVariants as word;
+ghost use Rattle.c_base.specs.declared.token.Punctuator.TheVariants as mark;
+ghost use Rattle.c_base.specs.declared.token.Word.TheVariants as word;
 ghost use Rattle.c_tree.specs.Spelling.{words_of, pieces, pieces_of_all, pieces_behind, pieces_with_commas, spell};
 ghost use Rattle.c_tree.specs.Views.{tree_of, part_tree, exprs_of, parts_of, operands_of, type_name_tree};
 
 use crate::plain_words::{comma_where, identifier, keyword, mark, text};
 use crate::tree::{Expr, Operand, PostfixPart, TypeName};
 use crate::type_words::type_name;
-use c_prog::token::{Keyword, Punctuator, Word};
+use c_base::token::{Keyword, Punctuator, Word};
 use sqlite_items::Items;
 use std::alloc::{AllocError, Global};
 

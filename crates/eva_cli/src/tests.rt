@@ -1,5 +1,5 @@
 //! The command over files and texts in memory. The reports are worked out by hand.
-use c_prog::name::Name;
+use c_base::name::Name;
 use eva_io::mem_sink::MemSink;
 use eva_io::mem_store::MemStore;
 use eva_io::store::Store;
@@ -65,7 +65,7 @@ fn report_of<R: Threads + Sync>(rt: &R, alloc: Global, source: &[u8]) -> Result<
 
 fn refused() -> Status {
     Status::Refused(Refusal::Form {
-        at: c_prog::number::Span { line: 1, col: 1 },
+        at: c_base::number::Span { line: 1, col: 1 },
     })
 }
 

@@ -1,7 +1,7 @@
 ghost use Rattle.std.specs.Prelude.{◌≡◌, ◌≢◌, ℕ, ◌≤◌, List, [], OnOk, IsSome};
 ghost use Rattle.eva_io.specs.Memory.{count_of, next_count, place_of};
 
-use c_prog::name::Name;
+use c_base::name::Name;
 use std::alloc::{AllocError, Global};
 
 /// A count for each name that was seen, 0 for every other name.

@@ -4,7 +4,7 @@ ghost use Rattle.eva_io.specs.Outside.{OnTooLong};
 
 use crate::counts::Counts;
 use crate::store::{LoadFault, Store};
-use c_prog::name::Name;
+use c_base::name::Name;
 use std::alloc::Global;
 use std::io::{ErrorKind, Read};
 use std::marker::Model;

@@ -6,7 +6,7 @@ ghost use Rattle.std.specs.Option.{option_copied};
 use crate::calls::Calls;
 use crate::counts::Counts;
 use crate::store::{LoadFault, Store};
-use c_prog::name::Name;
+use c_base::name::Name;
 use std::alloc::Global;
 use std::marker::Model;
 

@@ -1,7 +1,7 @@
 ghost use Rattle.std.specs.Prelude.{◌≡◌, ◌≢◌, ℕ, ◌≤◌, ◌<◌, List, Option, length, IfOk, IsErr, vec_len};
 ghost use Rattle.eva_io.specs.Outside.{HeldWhereTold, IsToldToHold, LoadCounts, OnTooLong};
 
-use c_prog::name::Name;
+use c_base::name::Name;
 use std::alloc::Global;
 use thiserror::Error;
 

@@ -4,7 +4,7 @@ use crate::mem_store::MemStore;
 use crate::sink::{PutFault, Sink, write_whole};
 use crate::std_sink::StdSink;
 use crate::store::{LoadFault, Store};
-use c_prog::name::Name;
+use c_base::name::Name;
 use std::alloc::{AllocError, Global};
 use std::fmt::Display;
 use std::io::{ErrorKind, Print};

@@ -1,7 +1,7 @@
 -- From what was put to the answer of the command.
 use Rattle.std.proofs.Common.{◌≡◌, ◌≢◌, ◌↔◌, ℕ, suc, ◌<◌, Bool, true, false, IsTrue, List, [], ◌∷◌, ◌++◌, length, get_or, map, Option, None, Some, refl, sym, ◌∙◌, ap, inl, inr, arith}
-use Rattle.c_prog.specs.declared.number.Span.{Span}
-use Rattle.c_prog.specs.declared.token.Token.{Token}
+use Rattle.c_base.specs.declared.number.Span.{Span}
+use Rattle.c_base.specs.declared.token.Token.{Token}
 use Rattle.first_program.specs.Source.{Program}
 use Rattle.first_program.specs.SourceViews.{IsShaped}
 use Rattle.first_program.specs.Meaning.{meaning_of}
@@ -14,7 +14,7 @@ use Rattle.std.proofs.lemmas.List.{length-append}
 use lib.Chars.{codes}
 use Rattle.eva_io.specs.Outside.{HeldWhereTold}
 use Rattle.first_language.specs.Language.{Spells}
-use Rattle.eva_top.specs.declared.status.LexSort.{LexSort}
+use Rattle.c_base.specs.declared.token.LexSort.{LexSort}
 use Rattle.eva_top.specs.declared.status.Refusal.TheVariants.{Form, Lex, Limit}
 use Rattle.eva_top.specs.declared.status.Status.{Status}
 use Rattle.eva_top.specs.declared.status.Status.TheVariants.{Clean, Alarmed, Usage, Unread, Refused, Unwritten, Memory, TooLong}

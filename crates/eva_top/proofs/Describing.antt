@@ -4,14 +4,14 @@ use Rattle.std.specs.Prelude.{pos, negsuc, nat_abs, ◌+ℤ◌, ◌-ℤ◌, ◌�
 use Rattle.std.specs.List.{AllByRecursion}
 use Rattle.std.proofs.lemmas.Bool.Decides.{nat_tests}
 use Rattle.std.proofs.lemmas.Int.{ints}
-use Rattle.c_prog.proofs.Tests.{other_test}
-use Rattle.c_prog.specs.Integers.{bits_from, residue}
-use Rattle.c_prog.specs.Values.{Cell, Uninit, nowhere, plain, cells_from, cells_of}
-use Rattle.c_prog.specs.Layouts.{Layout}
-use Rattle.c_prog.specs.Memories.{Memory}
-use Rattle.c_prog.specs.Rows.{Numbers, Few, Many, HoldsNumber, Plain, RowCell, AreBits, IsFlagged, AllowsPart, AllowsSome, EachElement, AllowsStretch, DescribesEntry, AreRanges, entries_of, Describes}
-use Rattle.c_prog.proofs.Bits.{length-bits_from}
-use Rattle.c_prog.proofs.IntMemory.{int_cells, length-int_cells}
+use Rattle.c_base.proofs.Tests.{other_test}
+use Rattle.c_base.specs.Integers.{bits_from, residue}
+use Rattle.c_memory.specs.Values.{Cell, Uninit, nowhere, plain, cells_from, cells_of}
+use Rattle.c_memory.specs.Layouts.{Layout}
+use Rattle.c_memory.specs.Memories.{Memory}
+use Rattle.c_memory.specs.Rows.{Numbers, Few, Many, HoldsNumber, Plain, RowCell, AreBits, IsFlagged, AllowsPart, AllowsSome, EachElement, AllowsStretch, DescribesEntry, AreRanges, entries_of, Describes}
+use Rattle.c_base.proofs.Bits.{length-bits_from}
+use Rattle.c_memory.proofs.IntMemory.{int_cells, length-int_cells}
 use Rattle.c_mean.specs.Evaluation.{Env, IsVariable}
 use Rattle.c_mean.proofs.Evaluation.{HasVariables, Shows}
 use Rattle.first_analysis.specs.declared.content.Range.{Range}

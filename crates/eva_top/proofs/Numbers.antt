@@ -4,7 +4,7 @@ use Rattle.std.specs.Prelude.{Bool, true, false, nat_lt, Option, None, Some, pos
 use lib.Signed.{lt_z}
 use Rattle.std.proofs.lemmas.Bool.Decides.{nat_tests}
 use Rattle.std.proofs.lemmas.Int.{ints}
-use Rattle.c_prog.specs.Rows.{Few, Many}
+use Rattle.c_memory.specs.Rows.{Few, Many}
 use Rattle.first_analysis.specs.declared.content.Range.{Range}
 use Rattle.first_analysis.specs.declared.content.Content.{Content}
 use Rattle.std.specs.Fmt.{signed_decimal}

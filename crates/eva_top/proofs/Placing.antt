@@ -2,10 +2,10 @@
 use Rattle.std.proofs.Common.{◌≡◌, ◌≢◌, ℕ, zero, suc, ◌+◌, ◌-◌, ◌<◌, ◌≤◌, ◌==◌, Bool, true, false, ◌||◌, List, [], ◌∷◌, length, get_or, map, None, Some, refl, sym, ◌∙◌, ap, arith}
 use Rattle.std.specs.List.{list_any}
 use Rattle.std.proofs.lemmas.Bool.Decides.{nat_tests}
-use Rattle.c_prog.proofs.Tests.{same_test, other_test}
+use Rattle.c_base.proofs.Tests.{same_test, other_test}
 use Rattle.first_program.specs.Source.{Program}
-use Rattle.c_prog.specs.Layouts.{Layout}
-use Rattle.c_prog.specs.Memories.{Memory, born}
+use Rattle.c_memory.specs.Layouts.{Layout}
+use Rattle.c_memory.specs.Memories.{Memory, born}
 use Rattle.c_prog.specs.Syntax.{base_at, numbers_from, IsLayout}
 use Rattle.first_program.specs.Meaning.{meaning_of, variable_base}
 use Rattle.c_mean.specs.Evaluation.{Env, IsVariable}

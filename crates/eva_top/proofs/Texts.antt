@@ -1,7 +1,7 @@
 -- The text of a report, line by line.
 use Rattle.std.proofs.Common.{◌≡◌, ◌≢◌, ◌↔◌, Bool, true, false, IsTrue, ℕ, zero, suc, ◌+◌, ◌<◌, ◌≤◌, List, [], ◌∷◌, ◌++◌, length, get_or, map, drop, Option, None, Some, refl, sym, ◌∙◌, ap, arith, append_assoc, append-nil, add-one, drop-cons, drop_of_length-le}
 use Rattle.std.specs.Prelude.{slice_get, not}
-use Rattle.c_prog.specs.declared.number.Span.{Span}
+use Rattle.c_base.specs.declared.number.Span.{Span}
 use Rattle.c_prog.specs.Syntax.{base_at}
 use Rattle.first_program.specs.Source.{Program}
 use Rattle.first_program.specs.Meaning.{meaning_of, variable_base, main_name}

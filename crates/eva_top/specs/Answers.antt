@@ -2,8 +2,8 @@
 use Rattle.std.specs.Prelude.{ℕ, ◌<◌, ◌≤◌, ◌≡◌, ◌≢◌, ◌⊎◌, ◌↔◌, Bool, true, false, IsTrue, List, [], ◌∷◌, ◌++◌, length, Option, Some, ⊤}
 use Rattle.std.specs.Fmt.{decimal}
 use lib.Chars.{codes}
-use Rattle.c_prog.specs.declared.number.Span.{Span}
-use Rattle.c_prog.specs.declared.token.Token.{Token}
+use Rattle.c_base.specs.declared.number.Span.{Span}
+use Rattle.c_base.specs.declared.token.Token.{Token}
 use Rattle.first_program.specs.Source.{Program}
 use Rattle.first_program.specs.Meaning.{meaning_of}
 use Rattle.eva_io.specs.Outside.{Rose, HeldWhereTold, Appended, AppendedInPart}
@@ -11,8 +11,8 @@ use Rattle.c_lex.specs.declared.fault.LexFault.{LexFault}
 use Rattle.c_lex.specs.declared.fault.LexFault.TheVariants.{BadByte as BadByteFault, OpenComment as OpenCommentFault, OpenString as OpenStringFault, BadNumber as BadNumberFault}
 use Rattle.c_lex.specs.Lexing.{AreAnswered, IsRefusedFor, AreTooMany}
 use Rattle.first_language.specs.Language.{Spells}
-use Rattle.eva_top.specs.declared.status.LexSort.{LexSort}
-use Rattle.eva_top.specs.declared.status.LexSort.TheVariants.{BadByte, OpenComment, OpenString, BadNumber}
+use Rattle.c_base.specs.declared.token.LexSort.{LexSort}
+use Rattle.c_base.specs.declared.token.LexSort.TheVariants.{BadByte, OpenComment, OpenString, BadNumber}
 use Rattle.eva_top.specs.declared.status.Refusal.TheVariants.{Form, Lex, Limit}
 use Rattle.eva_top.specs.declared.status.Status.{Status}
 use Rattle.eva_top.specs.declared.status.Status.TheVariants.{Clean, Alarmed, Usage, Unread, Refused, Unwritten, Memory, TooLong}

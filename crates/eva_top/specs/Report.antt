@@ -2,10 +2,10 @@
 use Rattle.std.specs.Prelude.{ℕ, nat_lt, Bool, true, false, cond, List, [], ◌∷◌, ◌++◌, map, Option, None, Some}
 use Rattle.std.specs.Fmt.{decimal, signed_decimal}
 use lib.Chars.{codes}
-use Rattle.c_prog.specs.declared.kind.Kind.{Kind}
-use Rattle.c_prog.specs.declared.kind.Kind.TheVariants.{DivisionByZero, SignedOverflow, Shift, MemAccess, IndexBound, Initialization, DanglingPointer, PtrComparison, DifferingBlocks, Overlap, FunctionPointer, Assertion, Precondition, Postcondition}
-use Rattle.c_prog.specs.declared.number.Span.{Span}
-use Rattle.c_prog.specs.Rows.{Numbers, Few, Many, Part, Plain, Address, Mix, RowCell, Entry}
+use Rattle.c_base.specs.declared.kind.Kind.{Kind}
+use Rattle.c_base.specs.declared.kind.Kind.TheVariants.{DivisionByZero, SignedOverflow, Shift, MemAccess, IndexBound, Initialization, DanglingPointer, PtrComparison, DifferingBlocks, Overlap, FunctionPointer, Assertion, Precondition, Postcondition}
+use Rattle.c_base.specs.declared.number.Span.{Span}
+use Rattle.c_memory.specs.Rows.{Numbers, Few, Many, Part, Plain, Address, Mix, RowCell, Entry}
 
 -- the rows of a statement in one call string, outermost call site first
 pub record ReportString : Type 0 where

@@ -1,11 +1,11 @@
 -- The report of the places of a program.
 use Rattle.std.specs.Prelude.{ℕ, zero, suc, ◌+◌, ◌++◌, map, Bool, true, false, cond, nat_lt, int_lt, List, [], ◌∷◌, length, ℤ, pos, negsuc, ◌+ℤ◌, ◌-ℤ◌, Option, None, Some}
-use Rattle.c_prog.specs.declared.kind.Kind.{Kind}
-use Rattle.c_prog.specs.declared.kind.Kind.TheVariants.{SignedOverflow, Initialization}
-use Rattle.c_prog.specs.declared.number.Span.{Span}
+use Rattle.c_base.specs.declared.kind.Kind.{Kind}
+use Rattle.c_base.specs.declared.kind.Kind.TheVariants.{SignedOverflow, Initialization}
+use Rattle.c_base.specs.declared.number.Span.{Span}
 use Rattle.first_program.specs.Source.{Program}
 use Rattle.first_program.specs.Meaning.{main_name}
-use Rattle.c_prog.specs.Rows.{Numbers, Few, Many, Plain, Entry}
+use Rattle.c_memory.specs.Rows.{Numbers, Few, Many, Plain, Entry}
 use Rattle.first_analysis.specs.declared.content.Range.{Range}
 use Rattle.first_analysis.specs.declared.content.Content.{Content}
 use Rattle.first_analysis.specs.declared.evaluation.Kinds.{Kinds}

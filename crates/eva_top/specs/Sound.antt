@@ -1,9 +1,9 @@
 -- What a report claims of the runs of a program.
 use Rattle.std.specs.Prelude.{ℕ, ◌≡◌, ◌⊎◌, List, [], ◌∷◌, length, map, Option, None, Some}
-use Rattle.c_prog.specs.declared.kind.Kind.{Kind}
-use Rattle.c_prog.specs.Layouts.{Layout}
-use Rattle.c_prog.specs.Memories.{Memory}
-use Rattle.c_prog.specs.Rows.{Entry, Describes}
+use Rattle.c_base.specs.declared.kind.Kind.{Kind}
+use Rattle.c_memory.specs.Layouts.{Layout}
+use Rattle.c_memory.specs.Memories.{Memory}
+use Rattle.c_memory.specs.Rows.{Entry, Describes}
 use Rattle.c_prog.specs.Syntax.{Program, Base, base_at, is_shown, numbers_from, IsLayout}
 use Rattle.c_mean.specs.Machine.{State, Stops, Step, IsInitial, IsRun, last_of, arrival, sites_of}
 use Rattle.eva_top.specs.Report.{ReportString, ReportStmt, Report}

@@ -7,11 +7,11 @@ ghost use Rattle.eva_top.specs.Answers.{Puts, PutsNote, memory_note, lex_text, l
 
 use crate::print::{push_number, push_text};
 use crate::report::{Printed, print_report};
-use crate::status::{LexSort, Refusal, Status};
+use crate::status::{Refusal, Status};
+use c_base::name::Name;
+use c_base::number::Span;
+use c_base::token::{LexSort, Token};
 use c_lex::LexFault;
-use c_prog::name::Name;
-use c_prog::number::Span;
-use c_prog::token::Token;
 use eva_io::sink::{PutFault, Sink, write_whole};
 use eva_io::store::{LoadFault, Store};
 use first_program::tree::Program;

@@ -3,10 +3,10 @@ ghost use Rattle.std.specs.Prelude.{◌≡◌, ◌+◌, pos, neg_ℤ, ◌+ℤ◌
 ghost use Rattle.std.specs.Fmt.{decimal, signed_decimal};
 ghost use Rattle.eva_top.specs.Report.{kind_name, stmt_head, string_head, row_head, variable_head, numbers_text, entry_text, alarm_text, first_line, end_line};
 ghost use Rattle.eva_top.specs.Rows.{entry_of, alarm_of, numbers_up, numbers_of, listed_text, flag_text, content_text, shown_range};
-ghost use Rattle.c_prog.specs.Rows.{Few, Many};
+ghost use Rattle.c_memory.specs.Rows.{Few, Many};
 
-use c_prog::kind::Kind;
-use c_prog::number::{Span, StmtId};
+use c_base::kind::Kind;
+use c_base::number::{Span, StmtId};
 use first_analysis::content::{Content, Range};
 use std::alloc::{AllocError, Global};
 

@@ -9,8 +9,8 @@ ghost use Rattle.eva_top.specs.Rows.{row_from, contents_of, content_or, strings_
 use crate::print::{
     Alarm, push_alarm, push_entry, push_first_line, push_last_line, push_row_head, push_stmt,
 };
-use c_prog::kind::Kind;
-use c_prog::number::{Span, StmtId};
+use c_base::kind::Kind;
+use c_base::number::{Span, StmtId};
 use first_analysis::content::{Content, Range};
 use first_analysis::evaluation::Kinds;
 use first_analysis::place::Place;

@@ -1,20 +1,8 @@
 ghost use Rattle.std.specs.Prelude.{◌≡◌};
 ghost use Rattle.eva_top.specs.ExitStatus.{exit_status_of};
 
-use c_prog::number::Span;
-
-/// What is wrong with the first piece of a file that can't be cut into tokens (C11 6.4).
-#[derive(Clone, Copy, Debug, PartialEq, Eq)]
-pub enum LexSort {
-    /// A byte that begins no token, or that can't stand in a character constant or an escape.
-    BadByte,
-    /// A comment or an annotation without its end.
-    OpenComment,
-    /// A string or a character constant without its end on its line.
-    OpenString,
-    /// What begins like a number and is none, or a number of 2^128 or more.
-    BadNumber,
-}
+use c_base::number::Span;
+use c_base::token::LexSort;
 
 /// Why a source is refused.
 #[derive(Clone, Copy, Debug, PartialEq, Eq)]

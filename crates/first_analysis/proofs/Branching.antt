@@ -1,7 +1,7 @@
 -- What holds behind a test.
 use Rattle.std.proofs.Common.{◌≡◌, true, false, ℤ, Some, Result, Ok, Err}
 use Rattle.std.specs.Prelude.{MatchResult}
-use Rattle.c_prog.specs.declared.kind.Kind.{Kind}
+use Rattle.c_base.specs.declared.kind.Kind.{Kind}
 use Rattle.c_prog.specs.Syntax.{Expr}
 use Rattle.c_mean.specs.Evaluation.{Env, value, is_true}
 use Rattle.first_analysis.specs.declared.place.Place.{Place}

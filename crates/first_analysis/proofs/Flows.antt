@@ -2,10 +2,10 @@
 use Rattle.std.proofs.Common.{◌≡◌, ℕ, suc, true, false, List, [], ◌∷◌, ◌++◌, length, drop, ℤ, Result, Ok, Err, arith}
 use Rattle.std.specs.Prelude.{MatchResult}
 use Rattle.std.proofs.Math.Seq.{take-append_seam, drop-append_seam}
-use Rattle.c_prog.specs.declared.kind.Kind.{Kind}
+use Rattle.c_base.specs.declared.kind.Kind.{Kind}
 use Rattle.first_program.specs.Source.{Test}
-use Rattle.c_prog.specs.declared.tree.IntKind.TheVariants.{Int}
-use Rattle.c_prog.specs.Integers.{fits_kind}
+use Rattle.c_base.specs.declared.integer.IntKind.TheVariants.{Int}
+use Rattle.c_base.specs.Integers.{fits_kind}
 use Rattle.c_prog.specs.Syntax.{Expr}
 use Rattle.first_program.specs.Source.{Stmt, Assign, Return, If, While, Block, Nothing, Stmts, Done, Next, count}
 use Rattle.first_program.specs.Meaning.{sum_expr, test_expr}

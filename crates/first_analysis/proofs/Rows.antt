@@ -1,9 +1,9 @@
 -- What rows hold, variable by variable.
 use Rattle.std.proofs.Common.{◌≡◌, ◌≢◌, ℕ, zero, suc, ◌-◌, ◌<◌, ◌≤◌, ◌==◌, Bool, true, false, cond, List, length, get_or, set, Option, Some, ℤ, refl, arith, length-set, get_or-set_same, get_or-set_other}
 use Rattle.std.proofs.lemmas.Option.{slice_get_within, get_or_from_slice_get, slice_get-get_or}
-use Rattle.c_prog.specs.declared.tree.IntKind.TheVariants.{Int}
-use Rattle.c_prog.specs.Integers.{fits_kind}
-use Rattle.c_prog.proofs.Tests.{test_same, same_test}
+use Rattle.c_base.specs.declared.integer.IntKind.TheVariants.{Int}
+use Rattle.c_base.specs.Integers.{fits_kind}
+use Rattle.c_base.proofs.Tests.{test_same, same_test}
 use Rattle.c_mean.specs.Evaluation.{Env, set as set_env}
 use Rattle.first_analysis.specs.declared.content.Content.{Content}
 use Rattle.first_analysis.specs.Contents.{Holds, Includes, HoldsRow, FitsInt}

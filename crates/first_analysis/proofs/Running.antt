@@ -1,19 +1,19 @@
 -- Rows that flow cover every run of the statements.
 use Rattle.std.proofs.Common.{◌≡◌, ℕ, zero, suc, ◌+◌, ◌≤◌, Bool, true, false, IsTrue, cond, List, [], ◌∷◌, map, take, drop, None, Some, Result, Ok, Err, ℤ, refl, ap, ◌∙◌, arith}
 use Rattle.std.specs.Prelude.{slice_get, MatchResult}
-use Rattle.c_prog.specs.declared.kind.Kind.{Kind}
-use Rattle.c_prog.specs.declared.tree.IntKind.TheVariants.{Int}
+use Rattle.c_base.specs.declared.kind.Kind.{Kind}
+use Rattle.c_base.specs.declared.integer.IntKind.TheVariants.{Int}
 use Rattle.first_program.specs.Source.{Sum}
 use Rattle.first_program.specs.Source.{Test}
-use Rattle.c_prog.specs.Values.{Cell, Uninit, Dead, Bit, plain, wither}
-use Rattle.c_prog.specs.Layouts.{Layout}
-use Rattle.c_prog.specs.Memories.{Memory, address_of, with_base, died, withered}
+use Rattle.c_memory.specs.Values.{Cell, Uninit, Dead, Bit, plain, wither}
+use Rattle.c_memory.specs.Layouts.{Layout}
+use Rattle.c_memory.specs.Memories.{Memory, address_of, with_base, died, withered}
 use Rattle.c_prog.specs.Syntax.{Expr, Variable, Assign, Stmt, Expression, Return, Block, Nothing, Stmts, Done, Next}
 use Rattle.first_program.specs.Source as source
 use Rattle.first_program.specs.Source.{count, count_all}
 use Rattle.first_program.specs.SourceViews.{IsSumShaped, IsTestShaped, IsStmtShaped, AreStmtsShaped}
 use Rattle.first_program.specs.Meaning.{sum_expr, test_expr, stmt_of, stmts_of}
-use Rattle.c_prog.proofs.IntMemory.{int_cells}
+use Rattle.c_memory.proofs.IntMemory.{int_cells}
 use Rattle.c_mean.specs.Evaluation.{Env, set, IsVariable, IsPlain, value, is_true}
 use Rattle.c_mean.specs.Machine.{Work, Do, Evaluate, Locate, Store, Discard, Choose, Turn, Deliver, Close, Held, Scalar, State, Outcome, Goes, Exit, Step, arrival, queued, sites_of, exit_of, statement_in}
 use Rattle.c_mean.proofs.Runs.{Good, lead, lead_from}

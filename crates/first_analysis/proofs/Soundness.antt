@@ -1,17 +1,17 @@
 -- Rows that flow cover every run of the statements.
 use Rattle.std.proofs.Common.{◌≡◌, ℕ, Bool, true, false, Option, None, Some, Result, Ok, Err, ℤ, refl}
 use Rattle.std.specs.Prelude.{◌+ℤ◌, ◌-ℤ◌}
-use Rattle.c_prog.specs.declared.kind.Kind.{Kind}
-use Rattle.c_prog.specs.declared.tree.IntKind.TheVariants.{Int}
+use Rattle.c_base.specs.declared.kind.Kind.{Kind}
+use Rattle.c_base.specs.declared.integer.IntKind.TheVariants.{Int}
 use Rattle.first_program.specs.declared.tree.Sign.{Sign}
 use Rattle.first_program.specs.declared.tree.Sign.TheVariants.{Plus, Minus}
 use Rattle.first_program.specs.Source.{Sum, Number as SumNumber, Variable as SumVariable, Parenthesised, Run, Addends, End, Then, Test, Compare, Enclosed}
-use Rattle.c_prog.specs.Integers.{fits_kind}
-use Rattle.c_prog.specs.Operators.{arithmetic}
+use Rattle.c_base.specs.Integers.{fits_kind}
+use Rattle.c_base.specs.Operators.{arithmetic}
 use Rattle.c_prog.specs.Syntax.{Expr, Binary}
 use Rattle.first_program.specs.SourceViews.{IsSumShaped, AreAddendsShaped, IsTestShaped}
 use Rattle.first_program.specs.Meaning.{run_expr, sum_expr, test_expr, sign_op}
-use Rattle.c_prog.proofs.Bits.{pos_fits}
+use Rattle.c_base.proofs.Bits.{pos_fits}
 use Rattle.c_mean.specs.Evaluation.{Env, IsPlain, value, combined, content_value}
 use Rattle.first_analysis.specs.Contents.{FitsInt}
 

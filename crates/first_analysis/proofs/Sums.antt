@@ -2,7 +2,7 @@
 use Rattle.std.proofs.Common.{◌≡◌, ℕ, suc, ◌+◌, ◌<◌, List, ◌∷◌, length, map, get_or, drop, refl, sym, ap, ◌∙◌}
 use Rattle.std.proofs.Math.Seq.{drop-cons}
 use Rattle.std.proofs.Math.Numerals.{add-one}
-use Rattle.c_prog.specs.declared.tree.IntKind.TheVariants.{Int}
+use Rattle.c_base.specs.declared.integer.IntKind.TheVariants.{Int}
 use Rattle.c_prog.specs.Syntax.{Expr, Binary}
 use Rattle.first_program.specs.declared.tree.Addend.{Addend as CodeAddend}
 use Rattle.first_program.specs.declared.tree.Sign.{Sign}

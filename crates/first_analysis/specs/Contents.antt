@@ -1,7 +1,7 @@
 -- What a variable may hold, by bounds and a flag, and the rows of all variables.
 use Rattle.std.specs.Prelude.{ℕ, suc, ◌≡◌, ℤ, ◌≤ℤ◌, IsTrue, true, List, slice_get, Option, None, Some}
-use Rattle.c_prog.specs.declared.tree.IntKind.TheVariants.{Int}
-use Rattle.c_prog.specs.Integers.{fits_kind}
+use Rattle.c_base.specs.declared.integer.IntKind.TheVariants.{Int}
+use Rattle.c_base.specs.Integers.{fits_kind}
 use Rattle.first_analysis.specs.declared.content.Range.{Range}
 use Rattle.first_analysis.specs.declared.content.Content.{Content}
 use Rattle.c_mean.specs.Evaluation.{Env}

@@ -1,8 +1,8 @@
 -- When rows at the statements cover every way through them. Generic in the rows, and in what it is that a row holds.
 use Rattle.std.specs.Prelude.{ℕ, ◌≡◌, Bool, true, false, IsTrue, List, [], ◌∷◌, take, drop, MatchResult}
-use Rattle.c_prog.specs.declared.kind.Kind.{Kind}
-use Rattle.c_prog.specs.declared.tree.IntKind.TheVariants.{Int}
-use Rattle.c_prog.specs.Integers.{fits_kind}
+use Rattle.c_base.specs.declared.kind.Kind.{Kind}
+use Rattle.c_base.specs.declared.integer.IntKind.TheVariants.{Int}
+use Rattle.c_base.specs.Integers.{fits_kind}
 use Rattle.c_prog.specs.Syntax.{Expr}
 use Rattle.first_program.specs.Source.{Stmt, Assign, Return, If, While, Block, Nothing, Stmts, Done, Next, count}
 use Rattle.first_program.specs.Meaning.{sum_expr, test_expr}

@@ -1,6 +1,6 @@
 -- The spots of the code's places.
 use Rattle.std.specs.Prelude.{ℕ, ◌≡◌, true, false, cond, IsTrue, ℤ, Option, Result, Ok, Err, None, Some, List, [], ◌∷◌, ◌++◌, length, map}
-use Rattle.c_prog.specs.declared.kind.Kind.{Kind}
+use Rattle.c_base.specs.declared.kind.Kind.{Kind}
 use Rattle.c_prog.specs.Syntax.{Expr}
 use Rattle.first_program.specs.Source.{Test}
 use Rattle.first_program.specs.declared.tree.Arm.{Arm as CodeArm}

@@ -1,7 +1,7 @@
 -- What the results of sums and tests may be.
 use Rattle.std.specs.Prelude.{Bool, true, false, IsTrue, ℤ, Result, Ok, Err}
-use Rattle.c_prog.specs.declared.kind.Kind.{Kind}
-use Rattle.c_prog.specs.declared.kind.Kind.TheVariants.{SignedOverflow, Initialization}
+use Rattle.c_base.specs.declared.kind.Kind.{Kind}
+use Rattle.c_base.specs.declared.kind.Kind.TheVariants.{SignedOverflow, Initialization}
 use Rattle.c_mean.specs.Evaluation.{is_true}
 use Rattle.first_analysis.specs.declared.evaluation.Kinds.{Kinds}
 use Rattle.first_analysis.specs.declared.evaluation.Evaluated.{Evaluated}

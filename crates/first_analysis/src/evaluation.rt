@@ -1,8 +1,8 @@
 //! What sums and tests give.
 ghost use Rattle.std.specs.Prelude.{◌≡◌, ℤ, ◌≤ℤ◌, ◌+ℤ◌, ◌-ℤ◌, IsTrue, Bool, true, not, int_lt, ◌≢◌, Option, Result, Ok, IfOk, pos, map};
-ghost use Rattle.c_prog.specs.declared.kind.Kind.{Kind};
-ghost use Rattle.c_prog.specs.declared.tree.IntKind.TheVariants.{Int};
-ghost use Rattle.c_prog.specs.Operators.{arithmetic, computed};
+ghost use Rattle.c_base.specs.declared.kind.Kind.{Kind};
+ghost use Rattle.c_base.specs.declared.integer.IntKind.TheVariants.{Int};
+ghost use Rattle.c_base.specs.Operators.{arithmetic, computed};
 ghost use Rattle.first_program.specs.Meaning.{sign_op, run_expr, sum_expr, relation_op, test_expr};
 ghost use Rattle.first_program.specs.SourceViews.{addends, addend_tree, sum_tree, test_tree};
 ghost use Rattle.c_prog.specs.Syntax.{Expr};
@@ -11,8 +11,8 @@ ghost use Rattle.first_analysis.specs.Contents.{IsWithin, Holds, HoldsNumber, Ho
 ghost use Rattle.first_analysis.specs.Values.{Gives, GivesTruth, has_kind, is_possible};
 
 use crate::content::{Content, INT, Range};
-use c_prog::number::BaseId;
-use c_prog::tree::Rel;
+use c_base::number::BaseId;
+use c_base::operators::Rel;
 use first_program::tree::{Addend, Sign, Sum, Test};
 
 /// Why an expression of `int` variables, numbers, sums and comparisons may be undefined.

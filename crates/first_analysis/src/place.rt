@@ -9,7 +9,7 @@ ghost use Rattle.first_analysis.specs.Contents.{HoldsReached, HoldsRow};
 use crate::content::Content;
 use crate::evaluation::{Kinds, sum, test};
 use crate::row::{Reached, assign, everything, includes, merge};
-use c_prog::number::BaseId;
+use c_base::number::BaseId;
 use first_program::tree::{Sum, Test};
 use sqlite_items::Items;
 use std::alloc::{AllocError, Global};

@@ -1,13 +1,13 @@
 //! Rows: what each variable may hold.
 ghost use Rattle.std.specs.Prelude.{◌≡◌, ℤ, true, List, IsTrue, IfOk, length};
-ghost use Rattle.c_prog.specs.declared.tree.IntKind.TheVariants.{Int};
-ghost use Rattle.c_prog.specs.Integers.{fits_kind};
+ghost use Rattle.c_base.specs.declared.integer.IntKind.TheVariants.{Int};
+ghost use Rattle.c_base.specs.Integers.{fits_kind};
 ghost use Rattle.c_mean.specs.Evaluation.{Env, set};
 ghost use Rattle.first_analysis.specs.Contents.{IsWithin, HoldsNumber, HoldsRow, HoldsReached};
 ghost use Rattle.first_analysis.specs.declared.content.Content.{Content};
 
 use crate::content::{Content, Range};
-use c_prog::number::BaseId;
+use c_base::number::BaseId;
 use sqlite_items::Items;
 use std::alloc::{AllocError, Global};
 

@@ -6,7 +6,7 @@ ghost use Rattle.first_analysis.specs.Tables.{Flows, FlowsAll, ArmFlows, LadderF
 
 use crate::place::{MOST_UPDATES, Place};
 use crate::row::{Reached, join};
-use c_prog::number::BaseId;
+use c_base::number::BaseId;
 use first_program::tree::{Arm, Stmt, Sum, Test};
 use sqlite_items::Boxed;
 use std::alloc::{AllocError, Global};

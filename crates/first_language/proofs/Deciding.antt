@@ -5,10 +5,10 @@ use Rattle.std.specs.List.{list_any}
 use Rattle.std.proofs.lemmas.Option.{cond_some}
 use Rattle.std.proofs.lemmas.Bool.Decides.{nat_tests}
 use Rattle.std.proofs.lemmas.Slice.Eq.{bytes_eq-Decides}
-use Rattle.c_prog.specs.declared.number.Span.{Span}
-use Rattle.c_prog.specs.declared.token.Keyword.TheVariants as key
-use Rattle.c_prog.specs.declared.token.Punctuator.TheVariants as mark
-use Rattle.c_prog.specs.declared.token.Token.{Token}
+use Rattle.c_base.specs.declared.number.Span.{Span}
+use Rattle.c_base.specs.declared.token.Keyword.TheVariants as key
+use Rattle.c_base.specs.declared.token.Punctuator.TheVariants as mark
+use Rattle.c_base.specs.declared.token.Token.{Token}
 use Rattle.first_program.specs.declared.tree.Program.{Program as CodeProgram}
 use Rattle.first_program.specs.Source.{Stmt, Stmts, Program, count_all}
 use Rattle.first_program.specs.SourceViews.{listed, program_of, AreStmtsShaped, IsShaped}

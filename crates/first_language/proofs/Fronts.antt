@@ -4,15 +4,15 @@ use Rattle.std.specs.Prelude.{position, bytes_eq, option_map}
 use Rattle.std.proofs.lemmas.List.Quantifiers.{position-Some}
 use Rattle.std.proofs.lemmas.Option.{cond_some}
 use denote.Enum.Bare.{sameb, true_same, same_true}
-use Rattle.c_prog.specs.contracts.token.Keyword.{the_type as key_type}
-use Rattle.c_prog.specs.contracts.token.Punctuator.{the_type as mark_type}
-use Rattle.c_prog.specs.declared.number.BaseId.{BaseId}
-use Rattle.c_prog.specs.declared.number.Span.{Span}
-use Rattle.c_prog.specs.declared.token.Keyword.{Keyword}
-use Rattle.c_prog.specs.declared.token.Punctuator.{Punctuator}
-use Rattle.c_prog.specs.declared.token.Token.{Token}
-use Rattle.c_prog.specs.declared.token.Word.{Word}
-use Rattle.c_prog.specs.declared.token.Word.TheVariants as word
+use Rattle.c_base.specs.contracts.token.Keyword.{the_type as key_type}
+use Rattle.c_base.specs.contracts.token.Punctuator.{the_type as mark_type}
+use Rattle.c_base.specs.declared.number.BaseId.{BaseId}
+use Rattle.c_base.specs.declared.number.Span.{Span}
+use Rattle.c_base.specs.declared.token.Keyword.{Keyword}
+use Rattle.c_base.specs.declared.token.Punctuator.{Punctuator}
+use Rattle.c_base.specs.declared.token.Token.{Token}
+use Rattle.c_base.specs.declared.token.Word.{Word}
+use Rattle.c_base.specs.declared.token.Word.TheVariants as word
 use Rattle.c_parse_expr.specs.Tokens.{behind, is_key, is_mark, behind_key, behind_mark, first, text_of, name_at}
 use Rattle.first_program.specs.SourceViews.{IsDeclared}
 use Rattle.first_language.specs.Sums.{base_at, variable_named}

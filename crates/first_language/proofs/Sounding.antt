@@ -1,12 +1,12 @@
 -- What the plain function finds is spelled by the tokens, and is well-formed.
 use Rattle.std.proofs.Common.{◌≡◌, ℕ, zero, suc, ◌≤◌, Bool, true, false, List, [], ◌∷◌, ◌++◌, length, Option, None, Some, refl, sym, ◌∙◌, ap, arith, append_assoc, append-nil, length-append}
-use Rattle.c_prog.specs.declared.number.BaseId.{BaseId}
-use Rattle.c_prog.specs.declared.number.Span.{Span}
+use Rattle.c_base.specs.declared.number.BaseId.{BaseId}
+use Rattle.c_base.specs.declared.number.Span.{Span}
 use Rattle.first_program.specs.Source.{Sum}
 use Rattle.first_program.specs.Source.{Test}
-use Rattle.c_prog.specs.declared.token.Keyword.TheVariants as key
-use Rattle.c_prog.specs.declared.token.Punctuator.TheVariants as mark
-use Rattle.c_prog.specs.declared.token.Token.{Token}
+use Rattle.c_base.specs.declared.token.Keyword.TheVariants as key
+use Rattle.c_base.specs.declared.token.Punctuator.TheVariants as mark
+use Rattle.c_base.specs.declared.token.Token.{Token}
 use Rattle.first_program.specs.Source.{Stmt, Assign, Return, If, While, Block, Nothing, Stmts, Done, Next, count, count_all}
 use Rattle.first_program.specs.SourceViews.{listed, ladder, IsTestShaped, IsStmtShaped, AreStmtsShaped}
 use Rattle.first_language.specs.Language.{Piece, Key, Mark, Mention, Value, Condition, Here, Fits, spell_else, spell, spell_all, is_open, IsNearest, IsStatement, AreStatements, nest_test, nest, nest_all}

@@ -1,13 +1,13 @@
 -- The language as a function: what is found at the front of a list of tokens, and what is left.
 use Rattle.std.specs.Prelude.{ℕ, zero, suc, ◌-◌, nat_lt, Bool, true, false, cond, List, [], ◌∷◌, ◌++◌, length, Option, None, Some, bytes_eq, codes}
 use Rattle.std.specs.List.{list_any}
-use Rattle.c_prog.specs.declared.number.BaseId.{BaseId}
-use Rattle.c_prog.specs.declared.number.Span.{Span}
-use Rattle.c_prog.specs.declared.token.Keyword.TheVariants as key
-use Rattle.c_prog.specs.declared.token.Punctuator.TheVariants as mark
-use Rattle.c_prog.specs.declared.token.Token.{Token}
-use Rattle.c_prog.specs.declared.token.Word.{Word}
-use Rattle.c_prog.specs.declared.token.Word.TheVariants as word
+use Rattle.c_base.specs.declared.number.BaseId.{BaseId}
+use Rattle.c_base.specs.declared.number.Span.{Span}
+use Rattle.c_base.specs.declared.token.Keyword.TheVariants as key
+use Rattle.c_base.specs.declared.token.Punctuator.TheVariants as mark
+use Rattle.c_base.specs.declared.token.Token.{Token}
+use Rattle.c_base.specs.declared.token.Word.{Word}
+use Rattle.c_base.specs.declared.token.Word.TheVariants as word
 use Rattle.c_parse_expr.specs.Parsers.{expr_at}
 use Rattle.c_parse_expr.specs.Tokens.{◌>>=◌, behind_key, behind_mark, first, name_at}
 use Rattle.first_program.specs.Source.{Sum, Test, Stmt, Assign, Return, While, Block, Nothing, Stmts, Program}

@@ -1,16 +1,16 @@
 -- Which of C's expressions are the sums and tests of the language.
 use Rattle.std.specs.Prelude.{ℕ, suc, nat_le, Bool, true, false, not, cond, ◌&&◌, List, [], ◌∷◌, Option, None, Some, option_map, position, bytes_eq}
-use Rattle.c_prog.specs.declared.number.BaseId.{BaseId}
-use Rattle.c_prog.specs.declared.token.IntegerConstant.{IntegerConstant}
-use Rattle.c_prog.specs.declared.token.Length.{Length}
-use Rattle.c_prog.specs.declared.token.Length.TheVariants.{Plain, Long, LongLong}
+use Rattle.c_base.specs.declared.number.BaseId.{BaseId}
+use Rattle.c_base.specs.declared.token.IntegerConstant.{IntegerConstant}
+use Rattle.c_base.specs.declared.token.Length.{Length}
+use Rattle.c_base.specs.declared.token.Length.TheVariants.{Plain, Long, LongLong}
 use Rattle.c_tree.specs.declared.operator.BinaryOperator.{BinaryOperator}
 use Rattle.c_tree.specs.declared.operator.BinaryOperator.TheVariants as operator
 use Rattle.c_parse_expr.specs.Tokens.{◌>>=◌}
 use Rattle.c_tree.specs.Trees as c
 use Rattle.c_tree.specs.Trees.{Tree, Trees}
-use Rattle.c_prog.specs.declared.tree.Rel.{Rel}
-use Rattle.c_prog.specs.declared.tree.Rel.TheVariants.{Lt, Le, Gt, Ge, Eq, Ne}
+use Rattle.c_base.specs.declared.operators.Rel.{Rel}
+use Rattle.c_base.specs.declared.operators.Rel.TheVariants.{Lt, Le, Gt, Ge, Eq, Ne}
 use Rattle.first_program.specs.declared.tree.Sign.{Sign}
 use Rattle.first_program.specs.declared.tree.Sign.TheVariants.{Plus, Minus}
 use Rattle.first_program.specs.Source.{Sum, Number, Variable, Parenthesised, Run, Test, Compare, Enclosed}

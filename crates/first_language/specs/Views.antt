@@ -1,7 +1,7 @@
 -- What the code finds, as what the plain functions find.
 use Rattle.std.specs.Prelude.{List, map}
-use Rattle.c_prog.specs.declared.number.Span.{Span}
-use Rattle.c_prog.specs.declared.token.Token.{Token}
+use Rattle.c_base.specs.declared.number.Span.{Span}
+use Rattle.c_base.specs.declared.token.Token.{Token}
 use Rattle.first_program.specs.declared.tree.Arm.{Arm as CodeArm, fold-Arm}
 use Rattle.first_program.specs.declared.tree.Stmt.{Stmt as CodeStmt}
 use Rattle.first_program.specs.Source.{Test}

@@ -7,7 +7,7 @@ ghost use Rattle.first_program.specs.SourceViews.{program_of, IsShaped};
 ghost use Rattle.first_language.specs.Exactness.{Exactly};
 ghost use Rattle.first_language.specs.Language.{Spells};
 
-use c_prog::token::Token;
+use c_base::token::Token;
 use first_program::tree::Program;
 use std::alloc::{AllocError, Global};
 

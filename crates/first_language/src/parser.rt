@@ -6,10 +6,10 @@ ghost use Rattle.first_language.specs.Reading.{behind_main, header_at, declared_
 
 use crate::statements::body_at;
 use crate::words::push_place;
+use c_base::name::Name;
+use c_base::number::Span;
+use c_base::token::{Keyword, Punctuator, Token};
 use c_parse_expr::words::{behind_keyword, behind_punctuator, name_at};
-use c_prog::name::Name;
-use c_prog::number::Span;
-use c_prog::token::{Keyword, Punctuator, Token};
 use first_program::tree::{Program, Stmt};
 use indexmap::IndexSet;
 use sqlite_items::Items;

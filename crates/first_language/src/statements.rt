@@ -8,10 +8,10 @@ ghost use Rattle.first_language.specs.Views.{arm_of, read_of, arm_read_of, body_
 
 use crate::values::{condition_at, value_at};
 use crate::words::{push_place, target_at};
+use c_base::name::Name;
+use c_base::number::Span;
+use c_base::token::{Keyword, Punctuator, Token};
 use c_parse_expr::words::{behind_keyword, behind_punctuator};
-use c_prog::name::Name;
-use c_prog::number::Span;
-use c_prog::token::{Keyword, Punctuator, Token};
 use first_program::tree::{Arm, Stmt};
 use indexmap::IndexSet;
 use sqlite_items::{Boxed, Items};

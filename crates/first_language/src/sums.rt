@@ -6,9 +6,9 @@ ghost use Rattle.first_program.specs.SourceViews.{addend_tree, sum_tree, test_tr
 ghost use Rattle.first_language.specs.Sums.{is_plain, is_int, number_of, sign_of, relation_of, sum_of, addends_of, addend_of, compared_with, comparison_of, test_of};
 
 use crate::words::variable_named;
-use c_prog::name::Name;
-use c_prog::token::{IntegerConstant, Length};
-use c_prog::tree::Rel;
+use c_base::name::Name;
+use c_base::operators::Rel;
+use c_base::token::{IntegerConstant, Length};
 use c_tree::operator::BinaryOperator;
 use c_tree::tree::{Expr, Operand};
 use first_program::tree::{Addend, Sign, Sum, Test};

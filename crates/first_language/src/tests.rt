@@ -1,7 +1,7 @@
 use crate::parse;
-use c_prog::name::Name;
-use c_prog::number::Span;
-use c_prog::token::{IntegerConstant, Keyword, Length, Punctuator, Radix, Token, Word};
+use c_base::name::Name;
+use c_base::number::Span;
+use c_base::token::{IntegerConstant, Keyword, Length, Punctuator, Radix, Token, Word};
 use first_program::tree::{Program, Sign, Stmt, Sum};
 use std::alloc::{AllocError, Global};
 use std::test::Fail;

@@ -7,11 +7,11 @@ ghost use Rattle.first_language.specs.Reading.{condition_at, value_at};
 ghost use Rattle.first_program.specs.SourceViews.{sum_tree, test_tree};
 
 use crate::sums::{sum_of, test_of};
+use c_base::name::Name;
+use c_base::token::{Punctuator, Token};
 use c_parse_expr::names::TypeNames;
 use c_parse_expr::parse::expr_within;
 use c_parse_expr::words::behind_punctuator;
-use c_prog::name::Name;
-use c_prog::token::{Punctuator, Token};
 use c_tree::tree::Expr;
 use first_program::tree::{Sum, Test};
 use indexmap::IndexSet;

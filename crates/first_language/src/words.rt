@@ -4,9 +4,9 @@ ghost use Rattle.indexmap.specs.IndexSet.{index_set_len};
 ghost use Rattle.first_language.specs.Reading.{variable_of, target_at, here};
 ghost use Rattle.first_language.specs.Sums.{variable_named};
 
-use c_prog::name::Name;
-use c_prog::number::{BaseId, Span};
-use c_prog::token::{Token, Word};
+use c_base::name::Name;
+use c_base::number::{BaseId, Span};
+use c_base::token::{Token, Word};
 use indexmap::IndexSet;
 use std::alloc::AllocError;
 

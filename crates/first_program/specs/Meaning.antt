@@ -1,13 +1,13 @@
 -- The typed program that a `Program` of the source stands for.
 use Rattle.std.specs.Prelude.{ℕ, suc, ◌+◌, true, false, List, [], ◌∷◌, length, pos, map}
-use Rattle.c_prog.specs.declared.tree.BinOp.{BinOp}
-use Rattle.c_prog.specs.declared.tree.BinOp.TheVariants.{Add, Sub, Lt, Le, Gt, Ge, Eq, Ne}
-use Rattle.c_prog.specs.declared.tree.IntKind.TheVariants.{Int}
-use Rattle.c_prog.specs.declared.tree.BaseSort.TheVariants.{Local, Func}
+use Rattle.c_base.specs.declared.operators.BinOp.{BinOp}
+use Rattle.c_base.specs.declared.operators.BinOp.TheVariants.{Add, Sub, Lt, Le, Gt, Ge, Eq, Ne}
+use Rattle.c_base.specs.declared.integer.IntKind.TheVariants.{Int}
+use Rattle.c_prog.specs.declared.base.BaseSort.TheVariants.{Local, Func}
 use Rattle.first_program.specs.declared.tree.Sign.{Sign}
 use Rattle.first_program.specs.declared.tree.Sign.TheVariants.{Plus, Minus}
-use Rattle.c_prog.specs.declared.tree.Rel.{Rel}
-use Rattle.c_prog.specs.declared.tree.Rel.TheVariants.{Lt as RelLt, Le as RelLe, Gt as RelGt, Ge as RelGe, Eq as RelEq, Ne as RelNe}
+use Rattle.c_base.specs.declared.operators.Rel.{Rel}
+use Rattle.c_base.specs.declared.operators.Rel.TheVariants.{Lt as RelLt, Le as RelLe, Gt as RelGt, Ge as RelGe, Eq as RelEq, Ne as RelNe}
 use Rattle.first_program.specs.Source.{Sum, Number as SumNumber, Variable as SumVariable, Parenthesised, Run, Addends, End, Then, Test, Compare, Enclosed, Stmt as SourceStmt, Assign as SourceAssign, Return as SourceReturn, If as SourceIf, While as SourceWhile, Block as SourceBlock, Nothing as SourceNothing, Stmts as SourceStmts, Done as SourceDone, Next as SourceNext, Program as SourceProgram, count, count_all}
 use Rattle.c_prog.specs.Syntax.{Variable, Expr, Number, Load, Binary, Assign, Stmt, Expression, Return, If, While, Block, Nothing, Stmts, Done, Next, Base, Function, Program, numbers_from}
 

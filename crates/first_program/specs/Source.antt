@@ -1,8 +1,8 @@
 -- Programs of the language that is read so far, as plain trees.
 use Rattle.std.specs.Prelude.{ℕ, suc, ◌+◌, List}
-use Rattle.c_prog.specs.declared.number.BaseId.{BaseId}
-use Rattle.c_prog.specs.declared.number.Span.{Span}
-use Rattle.c_prog.specs.declared.tree.Rel.{Rel}
+use Rattle.c_base.specs.declared.number.BaseId.{BaseId}
+use Rattle.c_base.specs.declared.number.Span.{Span}
+use Rattle.c_base.specs.declared.operators.Rel.{Rel}
 use Rattle.first_program.specs.declared.tree.Sign.{Sign}
 
 mutual

@@ -1,6 +1,6 @@
 -- The plain trees that the code's trees stand for.
 use Rattle.std.specs.Prelude.{ℕ, ◌<◌, ◌≤◌, ◌≡◌, ◌^◌, ◌-◌, suc, List, [], ◌∷◌, length, map, Option, None, Some}
-use Rattle.c_prog.specs.declared.number.BaseId.{BaseId}
+use Rattle.c_base.specs.declared.number.BaseId.{BaseId}
 use Rattle.first_program.specs.declared.tree.Addend.{Addend as CodeAddend, fold-Addend}
 use Rattle.first_program.specs.declared.tree.Program.{Program as CodeProgram}
 use Rattle.first_program.specs.declared.tree.Sign.{Sign}

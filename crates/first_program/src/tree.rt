@@ -1,8 +1,8 @@
 //! Programs of the language.
 
-use c_prog::name::Name;
-use c_prog::number::{BaseId, Span};
-use c_prog::tree::Rel;
+use c_base::name::Name;
+use c_base::number::{BaseId, Span};
+use c_base::operators::Rel;
 use sqlite_items::{Boxed, Items};
 
 /// Whether what follows is added or subtracted (C11 6.5.6).

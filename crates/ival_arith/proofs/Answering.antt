@@ -1,15 +1,15 @@
 -- What an answer holds.
 use Rattle.std.proofs.Common.{◌≡◌, ◌↔◌, ℕ, Bool, ℤ, ◌+ℤ◌, ◌-ℤ◌, Ok, Err, sym, subst, inl, inr, arith, IsTrue}
 use Rattle.std.proofs.lemmas.Int.{ints}
-use Rattle.c_prog.specs.declared.kind.Kind.{Kind}
-use Rattle.c_prog.specs.declared.tree.BinOp.{BinOp}
-use Rattle.c_prog.specs.declared.tree.BinOp.TheVariants.{Add, Sub}
-use Rattle.c_prog.specs.declared.tree.IntKind.{IntKind}
-use Rattle.c_prog.specs.declared.tree.IntKind.TheVariants as kinds
-use Rattle.c_prog.specs.declared.tree.Machine.{Machine}
-use Rattle.c_prog.specs.declared.tree.Machine.TheVariants.{Lp64}
-use Rattle.c_prog.specs.KindSets.{allowed}
-use Rattle.c_prog.specs.Integers.{FitsBits, is_signed, width_of, least_of, greatest_of}
+use Rattle.c_base.specs.declared.kind.Kind.{Kind}
+use Rattle.c_base.specs.declared.operators.BinOp.{BinOp}
+use Rattle.c_base.specs.declared.operators.BinOp.TheVariants.{Add, Sub}
+use Rattle.c_base.specs.declared.integer.IntKind.{IntKind}
+use Rattle.c_base.specs.declared.integer.IntKind.TheVariants as kinds
+use Rattle.c_base.specs.declared.integer.Machine.{Machine}
+use Rattle.c_base.specs.declared.integer.Machine.TheVariants.{Lp64}
+use Rattle.c_base.specs.KindSets.{allowed}
+use Rattle.c_base.specs.Integers.{FitsBits, is_signed, width_of, least_of, greatest_of}
 use Rattle.ival_core.specs.declared.value.Ival.{Ival}
 use Rattle.ival_core.specs.declared.value.Shape.{Shape}
 use Rattle.ival_core.specs.Sets.{IsValid, IsLeast, Has, HoldsNine}

@@ -3,7 +3,7 @@ use Rattle.std.proofs.Common.{◌≡◌, ℕ, zero, suc, ◌+◌, ◌-◌, ◌*�
 use Rattle.std.specs.Prelude.{neg_ℤ, unsigned_abs, nat_lt}
 use Rattle.std.proofs.lemmas.Int.{ints}
 use Rattle.std.proofs.lemmas.Nat.{mul-le, pow_pos}
-use Rattle.c_prog.specs.Integers.{FitsBits}
+use Rattle.c_base.specs.Integers.{FitsBits}
 use Rattle.ival_core.proofs.Runs.{Steps-low, Steps-high}
 use Rattle.ival_arith.proofs.Words.{powers}
 use Rattle.std.proofs.lemmas.Bool.{lt-ltb, le-ltb}

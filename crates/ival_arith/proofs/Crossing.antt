@@ -7,8 +7,8 @@ use Rattle.std.proofs.lemmas.Nat.{pow_pos, mul-le, le-div}
 use Rattle.std.proofs.Math.Nat.{div-le_self, div-mul-le_self, div-mul_cancel}
 use lib.IntN.{*ℤ_comm, *ℤ-zero}
 use lib.Signed.{◌<ℤ◌, ◌≤ℤ◌}
-use Rattle.c_prog.specs.Operators.{arithmetic}
-use Rattle.c_prog.proofs.Products.{mul-neg}
+use Rattle.c_base.specs.Operators.{arithmetic}
+use Rattle.c_base.proofs.Products.{mul-neg}
 use Rattle.ival_core.specs.declared.value.Progression.{Progression}
 use Rattle.ival_core.specs.declared.value.Shape.{Shape}
 use Rattle.ival_core.specs.declared.value.Shape.TheVariants.{Few, Many}
@@ -17,7 +17,7 @@ use Rattle.ival_core.specs.Views.{bounds_of}
 use Rattle.ival_core.proofs.Distances.{apart_is}
 use Rattle.ival_core.proofs.Runs.{Steps-number, Steps-low, Steps-high, Steps-from_at}
 use Rattle.ival_arith.specs.Kinds.{holds_number}
-use Rattle.c_prog.specs.declared.tree.BinOp.TheVariants.{Mul}
+use Rattle.c_base.specs.declared.operators.BinOp.TheVariants.{Mul}
 use Rattle.ival_arith.specs.Pieces.{none, gathered, clipped}
 use Rattle.ival_arith.specs.Sums.{firsts}
 use Rattle.ival_arith.proofs.Periods.{wrapped_fits, wrapped_nine}

@@ -5,9 +5,9 @@ use Rattle.std.proofs.lemmas.Int.{ints, by_lt_z}
 use Rattle.std.proofs.lemmas.Nat.{pow_pos, mul-le, div_below}
 use Rattle.std.proofs.Math.Nat.{div-le_self, div-one, zero-div}
 use lib.Signed.{◌<ℤ◌, ◌≤ℤ◌}
-use Rattle.c_prog.specs.declared.kind.Kind.TheVariants.{DivisionByZero, SignedOverflow}
-use Rattle.c_prog.specs.Integers.{FitsBits, fits_bits, residue, least_of, greatest_of}
-use Rattle.c_prog.specs.Operators.{operated, is_zero, floor}
+use Rattle.c_base.specs.declared.kind.Kind.TheVariants.{DivisionByZero, SignedOverflow}
+use Rattle.c_base.specs.Integers.{FitsBits, fits_bits, residue, least_of, greatest_of}
+use Rattle.c_base.specs.Operators.{operated, is_zero, floor}
 use Rattle.ival_core.specs.declared.value.Shape.{Shape}
 use Rattle.ival_core.specs.declared.value.Shape.TheVariants.{Few, Many}
 use Rattle.ival_core.proofs.Insertion.{AllNumbers-among}

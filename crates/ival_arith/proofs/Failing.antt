@@ -6,15 +6,15 @@ use Rattle.std.proofs.lemmas.Nat.{pow_pos, mul-le, div_below}
 use Rattle.std.proofs.Math.Nat.{div-le_self, div-one}
 use lib.IntN.{*ℤ_comm}
 use lib.Signed.{◌<ℤ◌, ◌≤ℤ◌}
-use Rattle.c_prog.specs.declared.kind.Kind.{Kind}
-use Rattle.c_prog.specs.declared.kind.Kind.TheVariants.{DivisionByZero, SignedOverflow}
-use Rattle.c_prog.specs.declared.tree.BinOp.{BinOp}
-use Rattle.c_prog.specs.declared.tree.BinOp.TheVariants.{Add, Sub, Mul, Div, Rem}
-use Rattle.c_prog.specs.KindSets.{allowed, no_kinds, with_kind}
-use Rattle.c_prog.specs.Integers.{FitsBits, fits_bits, residue, least_of, greatest_of}
-use Rattle.c_prog.specs.Operators.{operated, arithmetic, is_zero}
-use Rattle.c_prog.proofs.KindSets.{with_kind-allows, no_kinds-allow}
-use Rattle.c_prog.proofs.Products.{mul-neg}
+use Rattle.c_base.specs.declared.kind.Kind.{Kind}
+use Rattle.c_base.specs.declared.kind.Kind.TheVariants.{DivisionByZero, SignedOverflow}
+use Rattle.c_base.specs.declared.operators.BinOp.{BinOp}
+use Rattle.c_base.specs.declared.operators.BinOp.TheVariants.{Add, Sub, Mul, Div, Rem}
+use Rattle.c_base.specs.KindSets.{allowed, no_kinds, with_kind}
+use Rattle.c_base.specs.Integers.{FitsBits, fits_bits, residue, least_of, greatest_of}
+use Rattle.c_base.specs.Operators.{operated, arithmetic, is_zero}
+use Rattle.c_base.proofs.KindSets.{with_kind-allows, no_kinds-allow}
+use Rattle.c_base.proofs.Products.{mul-neg}
 use Rattle.ival_core.specs.declared.value.Shape.{Shape}
 use Rattle.ival_core.specs.Sets.{IsNumber, IsValid, Has}
 use Rattle.ival_core.specs.Views.{bounds_of}

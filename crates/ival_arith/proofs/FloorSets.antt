@@ -9,7 +9,7 @@ use Rattle.std.proofs.lemmas.Nat.{mul-le, mod_below, div-add-mod'}
 use Rattle.std.proofs.lemmas.Nat.Gcd.{dvd_of_mod-eq-zero}
 use Rattle.std.proofs.Math.Nat.{div-mul_cancel}
 use lib.Signed.{◌<ℤ◌, ◌≤ℤ◌}
-use Rattle.c_prog.specs.Operators.{floor}
+use Rattle.c_base.specs.Operators.{floor}
 use Rattle.ival_core.specs.declared.value.Progression.{Progression}
 use Rattle.ival_core.specs.declared.value.Shape.{Shape}
 use Rattle.ival_core.specs.declared.value.Shape.TheVariants.{Few, Many}

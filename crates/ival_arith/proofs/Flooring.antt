@@ -9,8 +9,8 @@ use Rattle.std.proofs.lemmas.Bool.{eqb-true}
 use Rattle.std.proofs.lemmas.Nat.Gcd.{dvd_of_mod-eq-zero}
 use Rattle.std.proofs.Math.Nat.{dvd-mul_left, div-mul-le_self, div-add-mod, div-mul_cancel, div-le_self, one-dvd}
 use lib.Signed.{◌<ℤ◌, ◌≤ℤ◌}
-use Rattle.c_prog.specs.Operators.{floor}
-use Rattle.c_prog.proofs.Products.{add-mul}
+use Rattle.c_base.specs.Operators.{floor}
+use Rattle.c_base.proofs.Products.{add-mul}
 use Rattle.ival_core.specs.declared.value.Progression.{Progression}
 use Rattle.ival_core.specs.declared.value.Shape.{Shape}
 use Rattle.ival_core.specs.declared.value.Shape.TheVariants.{Few, Many}

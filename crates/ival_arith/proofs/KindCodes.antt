@@ -4,7 +4,7 @@ use Rattle.std.specs.Prelude.{neg_ℤ, ◌*ℤ◌, unsigned_abs}
 use Rattle.std.proofs.lemmas.Int.{ints, unsigned_abs-mul}
 use Rattle.std.proofs.lemmas.Nat.{mul-le}
 use lib.Signed.{◌≤ℤ◌}
-use Rattle.c_prog.specs.Integers.{FitsBits}
+use Rattle.c_base.specs.Integers.{FitsBits}
 use Rattle.ival_core.specs.declared.value.Shape.{Shape}
 use Rattle.ival_core.specs.Sets.{Has}
 use Rattle.ival_arith.specs.Kinds.{holds_number, IsShort}

@@ -4,12 +4,12 @@ use Rattle.std.specs.Prelude.{◌*ℤ◌, ◌&&◌, int_le}
 use Rattle.std.proofs.lemmas.Int.{ints}
 use Rattle.std.proofs.lemmas.Nat.{pow_pos}
 use lib.Signed.{◌≤ℤ◌}
-use Rattle.c_prog.specs.declared.kind.Kind.{Kind}
-use Rattle.c_prog.specs.declared.kind.Kind.TheVariants.{SignedOverflow}
-use Rattle.c_prog.specs.declared.tree.BinOp.{BinOp}
-use Rattle.c_prog.specs.Integers.{FitsBits, fits_bits, residue, least_of, greatest_of}
-use Rattle.c_prog.specs.Operators.{operated, arithmetic}
-use Rattle.c_prog.proofs.Residues.{residue_is}
+use Rattle.c_base.specs.declared.kind.Kind.{Kind}
+use Rattle.c_base.specs.declared.kind.Kind.TheVariants.{SignedOverflow}
+use Rattle.c_base.specs.declared.operators.BinOp.{BinOp}
+use Rattle.c_base.specs.Integers.{FitsBits, fits_bits, residue, least_of, greatest_of}
+use Rattle.c_base.specs.Operators.{operated, arithmetic}
+use Rattle.c_base.proofs.Residues.{residue_is}
 use Rattle.ival_core.specs.Sets.{Among, IsNumber}
 use Rattle.ival_core.proofs.Counting.{Among-left, Among-right, Among-split}
 use Rattle.ival_core.proofs.Insertion.{AllNumbers-from_among}

@@ -6,9 +6,9 @@ use Rattle.std.proofs.lemmas.Nat.{mul-le, le-div}
 use Rattle.std.proofs.Math.Nat.{div-mul-le_self, div-le_self}
 use lib.IntN.{*ℤ_comm, *ℤ-zero, *ℤ-negsuc}
 use lib.Signed.{◌<ℤ◌, ◌≤ℤ◌}
-use Rattle.c_prog.specs.Integers.{residue}
-use Rattle.c_prog.specs.Operators.{is_zero}
-use Rattle.c_prog.proofs.Products.{mul-neg}
+use Rattle.c_base.specs.Integers.{residue}
+use Rattle.c_base.specs.Operators.{is_zero}
+use Rattle.c_base.proofs.Products.{mul-neg}
 use Rattle.ival_core.specs.declared.value.Progression.{Progression}
 use Rattle.ival_core.specs.declared.value.Shape.{Shape}
 use Rattle.ival_core.specs.declared.value.Shape.TheVariants.{Few, Many}

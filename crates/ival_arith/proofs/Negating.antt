@@ -4,12 +4,12 @@ use Rattle.std.specs.Prelude.{neg_ℤ}
 use Rattle.std.proofs.lemmas.Int.{ints}
 use Rattle.std.proofs.lemmas.Nat.{pow_pos}
 use lib.Signed.{◌<ℤ◌, ◌≤ℤ◌}
-use Rattle.c_prog.specs.declared.kind.Kind.{Kind}
-use Rattle.c_prog.specs.declared.tree.IntKind.{IntKind}
-use Rattle.c_prog.specs.declared.tree.Machine.{Machine}
-use Rattle.c_prog.specs.KindSets.{allowed}
-use Rattle.c_prog.specs.Integers.{FitsBits, is_signed, width_of, least_of, greatest_of, residue}
-use Rattle.c_prog.specs.Operators.{arithmetic}
+use Rattle.c_base.specs.declared.kind.Kind.{Kind}
+use Rattle.c_base.specs.declared.integer.IntKind.{IntKind}
+use Rattle.c_base.specs.declared.integer.Machine.{Machine}
+use Rattle.c_base.specs.KindSets.{allowed}
+use Rattle.c_base.specs.Integers.{FitsBits, is_signed, width_of, least_of, greatest_of, residue}
+use Rattle.c_base.specs.Operators.{arithmetic}
 use Rattle.ival_core.specs.declared.value.Ival.{Ival}
 use Rattle.ival_core.specs.declared.value.Shape.{Shape}
 use Rattle.ival_core.specs.Sets.{IsLeast, Has, HoldsNine}

@@ -6,7 +6,7 @@ use Rattle.std.proofs.lemmas.Int.{ints, by_lt_z, clamps}
 use Rattle.std.proofs.lemmas.Bool.{cases_lt}
 use Rattle.std.proofs.Math.Nat.{div-mul_cancel, mul_assoc, mul-pos}
 use Rattle.std.proofs.lemmas.Nat.Gcd.{dvd_of_mod-eq-zero}
-use Rattle.c_prog.proofs.Products.{add-mul}
+use Rattle.c_base.proofs.Products.{add-mul}
 use lib.Signed.{◌<ℤ◌, ◌≤ℤ◌}
 use Rattle.ival_core.specs.declared.value.Progression.{Progression}
 use Rattle.ival_core.specs.declared.value.Shape.{Shape}

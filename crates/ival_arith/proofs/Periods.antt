@@ -7,8 +7,8 @@ use Rattle.std.proofs.Common.{eq-eqb}
 use Rattle.std.proofs.lemmas.Nat.{pow_pos, div-add-mod', mod_below, mul-le}
 use Rattle.std.proofs.Math.Nat.{pow-suc, add-mul-mod_self_right, mul-mod_left}
 use lib.Signed.{◌≤ℤ◌}
-use Rattle.c_prog.specs.declared.tree.BinOp.TheVariants.{Mul}
-use Rattle.c_prog.specs.Operators.{operated, arithmetic}
+use Rattle.c_base.specs.declared.operators.BinOp.TheVariants.{Mul}
+use Rattle.c_base.specs.Operators.{operated, arithmetic}
 use Rattle.ival_core.specs.declared.value.Progression.{Progression}
 use Rattle.ival_core.specs.declared.value.Shape.TheVariants.{Many}
 use Rattle.ival_core.specs.Sets.{Among, Steps, HoldsNine}

@@ -7,8 +7,8 @@ use Rattle.std.proofs.lemmas.Int.{ints, to_z_pos}
 use Rattle.std.proofs.Math.Nat.{div-le_self, div-mul_cancel}
 use Rattle.std.proofs.lemmas.Bool.Decides.{nat_tests}
 use lib.Signed.{◌≤ℤ◌}
-use Rattle.c_prog.specs.Integers.{residue, least_of, greatest_of}
-use Rattle.c_prog.specs.Operators.{is_zero}
+use Rattle.c_base.specs.Integers.{residue, least_of, greatest_of}
+use Rattle.c_base.specs.Operators.{is_zero}
 use Rattle.ival_core.specs.declared.value.Progression.{Progression}
 use Rattle.ival_core.specs.declared.value.Shape.{Shape}
 use Rattle.ival_core.specs.declared.value.Shape.TheVariants.{Few, Many}

@@ -5,8 +5,8 @@ use Rattle.std.proofs.lemmas.Int.{ints}
 use Rattle.std.proofs.lemmas.Nat.{mul-le, mul-mod_second}
 use Rattle.std.proofs.Math.Nat.{add-mod-mod, le_of_mul-le-mul_right, div-mul_cancel, mod-eq_of_lt}
 use lib.Signed.{◌<ℤ◌, ◌≤ℤ◌}
-use Rattle.c_prog.specs.Integers.{residue}
-use Rattle.c_prog.proofs.Residues.{residue_same, residue_differs, residue_below}
+use Rattle.c_base.specs.Integers.{residue}
+use Rattle.c_base.proofs.Residues.{residue_same, residue_differs, residue_below}
 use Rattle.ival_core.specs.declared.value.Progression.{Progression}
 use Rattle.ival_core.specs.declared.value.Shape.{Shape}
 use Rattle.ival_core.specs.declared.value.Shape.TheVariants.{Few, Many}

@@ -3,7 +3,7 @@ use Rattle.std.proofs.Common.{◌≡◌, ◌↔◌, IsTrue, Bool, true, false, �
 use Rattle.std.specs.Prelude.{◌&&◌, int_lt, int_le}
 use Rattle.std.proofs.lemmas.Int.{ints, by_lt_z}
 use lib.Signed.{◌<ℤ◌, ◌≤ℤ◌, ≤ℤ_refl}
-use Rattle.c_prog.specs.declared.tree.Rel.TheVariants.{Lt, Eq}
+use Rattle.c_base.specs.declared.operators.Rel.TheVariants.{Lt, Eq}
 use Rattle.ival_core.specs.declared.value.Ival.{Ival}
 use Rattle.ival_core.specs.Ivals.{Holds, IsBounds, IsMeet}
 use Rattle.ival_core.proofs.Orders.{lt_true, lt_false, le_true, true_lt, true_le, false_lt, false_le}

@@ -6,8 +6,8 @@ use Rattle.std.proofs.lemmas.Bool.{ltb-true}
 use Rattle.std.proofs.lemmas.Nat.{mod_below}
 use Rattle.std.proofs.Math.Nat.{one-dvd}
 use lib.Signed.{◌<ℤ◌, ◌≤ℤ◌}
-use Rattle.c_prog.specs.Integers.{residue}
-use Rattle.c_prog.proofs.Residues.{residue_below}
+use Rattle.c_base.specs.Integers.{residue}
+use Rattle.c_base.proofs.Residues.{residue_below}
 use Rattle.ival_core.specs.declared.value.Shape.{Shape}
 use Rattle.ival_core.specs.declared.value.Shape.TheVariants.{Few, Many}
 use Rattle.ival_core.specs.Sets.{apart, Among, Has}

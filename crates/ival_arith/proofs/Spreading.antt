@@ -7,12 +7,12 @@ use Rattle.std.proofs.lemmas.Nat.{pow_pos, mul-le, le-div}
 use Rattle.std.proofs.Math.Nat.{one-dvd, div-le_self, mod-le, div-mul-le_self}
 use lib.IntN.{*ℤ_comm}
 use lib.Signed.{◌<ℤ◌, ◌≤ℤ◌}
-use Rattle.c_prog.specs.declared.kind.Kind.{Kind}
-use Rattle.c_prog.specs.declared.kind.Kind.TheVariants.{DivisionByZero, SignedOverflow}
-use Rattle.c_prog.specs.declared.tree.BinOp.TheVariants.{Div, Rem}
-use Rattle.c_prog.specs.Integers.{FitsBits, fits_bits, residue, least_of, greatest_of}
-use Rattle.c_prog.specs.Operators.{arithmetic, is_zero, quotient, remainder}
-use Rattle.c_prog.proofs.Residues.{residue_below}
+use Rattle.c_base.specs.declared.kind.Kind.{Kind}
+use Rattle.c_base.specs.declared.kind.Kind.TheVariants.{DivisionByZero, SignedOverflow}
+use Rattle.c_base.specs.declared.operators.BinOp.TheVariants.{Div, Rem}
+use Rattle.c_base.specs.Integers.{FitsBits, fits_bits, residue, least_of, greatest_of}
+use Rattle.c_base.specs.Operators.{arithmetic, is_zero, quotient, remainder}
+use Rattle.c_base.proofs.Residues.{residue_below}
 use Rattle.ival_core.specs.declared.value.Progression.{Progression}
 use Rattle.ival_core.specs.declared.value.Shape.{Shape}
 use Rattle.ival_core.specs.declared.value.Shape.TheVariants.{Few, Many}

@@ -3,16 +3,16 @@ use Rattle.std.proofs.Common.{◌≡◌, ℕ, ◌-◌, ◌≤◌, ◌^◌, ◌<�
 use Rattle.std.specs.Prelude.{neg_ℤ, unsigned_abs}
 use Rattle.std.proofs.lemmas.Int.{ints}
 use Rattle.arrayvec.specs.ArrayVec.{ArrayVec}
-use Rattle.c_prog.specs.declared.tree.BinOp.{BinOp}
-use Rattle.c_prog.specs.declared.tree.BinOp.TheVariants.{Add, Sub, Mul, Div, Rem}
-use Rattle.c_prog.specs.Integers.{FitsBits, least_of, greatest_of}
+use Rattle.c_base.specs.declared.operators.BinOp.{BinOp}
+use Rattle.c_base.specs.declared.operators.BinOp.TheVariants.{Add, Sub, Mul, Div, Rem}
+use Rattle.c_base.specs.Integers.{FitsBits, least_of, greatest_of}
 use Rattle.ival_core.specs.declared.value.Progression.{Progression}
 use Rattle.ival_core.specs.declared.value.Ival.{Ival}
 use Rattle.ival_core.specs.declared.value.Shape.{Shape}
 use Rattle.ival_core.specs.declared.value.Shape.TheVariants.{Few, Many}
 use Rattle.ival_core.specs.Sets.{IsNumber}
 use Rattle.ival_core.proofs.Insertion.{Holds-number}
-use Rattle.c_mean.specs.Wide.{IsOperand}
+use Rattle.c_base.specs.Wide.{IsOperand}
 use Rattle.ival_arith.proofs.Exacting.{negates}
 use Rattle.ival_core.specs.Ivals.{Holds}
 use Rattle.ival_core.specs.Views.{bounds_of}

@@ -4,7 +4,7 @@ use Rattle.std.specs.Prelude.{neg_ℤ, ◌*ℤ◌, ◌&&◌, int_lt, nat_lt, uns
 use Rattle.std.proofs.lemmas.List.{drop_all}
 use Rattle.std.proofs.lemmas.Bool.{lt-ltb, le-ltb}
 use Rattle.arrayvec.specs.ArrayVec.{ArrayVec}
-use Rattle.c_prog.specs.Operators.{is_zero}
+use Rattle.c_base.specs.Operators.{is_zero}
 use Rattle.ival_core.specs.declared.value.Progression.{Progression}
 use Rattle.ival_core.specs.declared.value.Shape.{Shape}
 use Rattle.ival_core.specs.declared.value.Shape.TheVariants.{Few, Many}

@@ -6,7 +6,7 @@ use Rattle.std.proofs.lemmas.Nat.{mul-le}
 use Rattle.std.proofs.Math.Nat.{one-dvd}
 use lib.IntN.{*ℤ_comm, *ℤ-zero}
 use lib.Signed.{◌≤ℤ◌}
-use Rattle.c_prog.specs.Operators.{is_zero}
+use Rattle.c_base.specs.Operators.{is_zero}
 use Rattle.ival_core.specs.declared.value.Progression.{Progression}
 use Rattle.ival_core.specs.declared.value.Ival.{Ival}
 use Rattle.ival_core.specs.declared.value.Shape.{Shape}

@@ -9,7 +9,7 @@ use Rattle.ival_core.specs.declared.value.Shape.{Shape}
 use Rattle.ival_core.specs.declared.value.Shape.TheVariants.{Many}
 use Rattle.ival_core.specs.Sets.{apart, steps_from, Among, IsNumber}
 use Rattle.ival_arith.specs.declared.divisions.Part.{Part}
-use Rattle.c_mean.specs.Wide.{IsOperand}
+use Rattle.c_base.specs.Wide.{IsOperand}
 use Rattle.ival_arith.specs.Pieces.{clipped}
 use Rattle.ival_arith.specs.Values.{with_far, same_results, going_on, and_then, number_at, with_outcome, with_places, with_divisors, number_divided, numbers_divided}
 

@@ -1,12 +1,12 @@
 -- How results are computed.
 use Rattle.std.proofs.Common.{◌≡◌, ℕ, ◌+◌, ◌<◌, ◌≤◌, Bool, ℤ, pos, List, [], ◌∷◌, ◌++◌, length, drop, get_or, map, Result, Ok, Err, drop-cons, add-one, refl, sym, subst, ap, ◌∙◌}
 use Rattle.std.proofs.lemmas.List.{drop_all}
-use Rattle.c_prog.specs.declared.kind.Kind.{Kind}
-use Rattle.c_prog.specs.declared.tree.BinOp.{BinOp}
-use Rattle.c_prog.specs.Integers.{residue, is_signed, width_of, FitsKind, FitsBits}
-use Rattle.c_prog.specs.declared.tree.IntKind.{IntKind}
-use Rattle.c_prog.specs.declared.tree.Machine.{Machine}
-use Rattle.c_prog.specs.Operators.{operated, applied}
+use Rattle.c_base.specs.declared.kind.Kind.{Kind}
+use Rattle.c_base.specs.declared.operators.BinOp.{BinOp}
+use Rattle.c_base.specs.Integers.{residue, is_signed, width_of, FitsKind, FitsBits}
+use Rattle.c_base.specs.declared.integer.IntKind.{IntKind}
+use Rattle.c_base.specs.declared.integer.Machine.{Machine}
+use Rattle.c_base.specs.Operators.{operated, applied}
 use Rattle.arrayvec.specs.ArrayVec.{ArrayVec}
 use Rattle.ival_core.specs.declared.value.Progression.{Progression}
 use Rattle.ival_core.specs.declared.value.Shape.{Shape}

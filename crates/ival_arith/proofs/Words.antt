@@ -5,12 +5,12 @@ use Rattle.std.proofs.lemmas.Nat.{pow_pos}
 use Rattle.std.proofs.Math.Nat.{pow-le-pow_right, pow-suc}
 use Rattle.std.proofs.lemmas.Int.{ints}
 use lib.Signed.{◌≤ℤ◌, ◌<ℤ◌}
-use Rattle.c_prog.specs.declared.kind.Kind.{Kind}
-use Rattle.c_prog.specs.declared.tree.BinOp.{BinOp}
-use Rattle.c_prog.specs.Integers.{FitsBits, least_of, greatest_of}
-use Rattle.c_prog.specs.Operators.{operated}
-use Rattle.c_mean.specs.Wide.{IsOperand}
-use Rattle.c_mean.proofs.Within.{operated_within}
+use Rattle.c_base.specs.declared.kind.Kind.{Kind}
+use Rattle.c_base.specs.declared.operators.BinOp.{BinOp}
+use Rattle.c_base.specs.Integers.{FitsBits, least_of, greatest_of}
+use Rattle.c_base.specs.Operators.{operated}
+use Rattle.c_base.specs.Wide.{IsOperand}
+use Rattle.c_base.proofs.Within.{operated_within}
 use Rattle.ival_core.specs.Sets.{IsNumber}
 
 pub powers : (width : ℕ) → width ≤ 64 → 2 ^ width ≤ 2 ^ 64

@@ -6,9 +6,9 @@ use Rattle.std.proofs.lemmas.Bool.{cases_lt}
 use Rattle.std.proofs.lemmas.Nat.{pow_pos, mul-le}
 use Rattle.std.proofs.Math.Nat.{mod-eq_of_lt, add-mod_right}
 use lib.Signed.{◌<ℤ◌, ◌≤ℤ◌}
-use Rattle.c_prog.specs.Integers.{FitsBits, residue, least_of, greatest_of}
-use Rattle.c_prog.specs.Operators.{arithmetic}
-use Rattle.c_prog.proofs.Residues.{residue_below}
+use Rattle.c_base.specs.Integers.{FitsBits, residue, least_of, greatest_of}
+use Rattle.c_base.specs.Operators.{arithmetic}
+use Rattle.c_base.proofs.Residues.{residue_below}
 use Rattle.ival_core.specs.declared.value.Progression.{Progression}
 use Rattle.ival_core.specs.declared.value.Shape.{Shape}
 use Rattle.ival_core.specs.declared.value.Shape.TheVariants.{Few, Many}
@@ -27,8 +27,8 @@ use Rattle.ival_arith.proofs.Reducing.{residue-further, residues-fits, residues-
 use Rattle.ival_arith.proofs.Making.{Typed, IsWidth, signed_result, result_signed, unsigned_result}
 use Rattle.ival_arith.proofs.Words.{ends, powers, half, fits_operand, operand_number}
 use Rattle.ival_arith.proofs.Exacting.{number_negated}
-use Rattle.c_mean.specs.Wide.{IsOperand}
-use Rattle.c_prog.specs.declared.kind.Kind.{Kind}
+use Rattle.c_base.specs.Wide.{IsOperand}
+use Rattle.c_base.specs.declared.kind.Kind.{Kind}
 use Rattle.std.proofs.Math.Nat.{one-dvd}
 
 -- what two sets of numbers of a type, the second one perhaps negated, may be asked for

@@ -1,10 +1,10 @@
 -- The answers of the operators of C on two sets of numbers.
 use Rattle.std.specs.Prelude.{ℕ, Bool, true, false, ◌^◌}
-use Rattle.c_prog.specs.declared.tree.BinOp.{BinOp}
-use Rattle.c_prog.specs.declared.tree.IntKind.{IntKind}
-use Rattle.c_prog.specs.declared.tree.Machine.{Machine}
-use Rattle.c_prog.specs.declared.kind.KindSet.{KindSet}
-use Rattle.c_prog.specs.Integers.{is_signed, width_of, least_of, greatest_of}
+use Rattle.c_base.specs.declared.operators.BinOp.{BinOp}
+use Rattle.c_base.specs.declared.integer.IntKind.{IntKind}
+use Rattle.c_base.specs.declared.integer.Machine.{Machine}
+use Rattle.c_base.specs.declared.kind.KindSet.{KindSet}
+use Rattle.c_base.specs.Integers.{is_signed, width_of, least_of, greatest_of}
 use Rattle.ival_core.specs.declared.value.Shape.{Shape}
 use Rattle.ival_arith.specs.declared.pieces.Change.TheVariants.{Negative}
 use Rattle.ival_arith.specs.Pieces.{all_changed, clipped}

@@ -1,6 +1,6 @@
 -- The numbers of sets, each divided by a positive number and rounded down.
 use Rattle.std.specs.Prelude.{ℕ, ◌/◌, ◌%◌, ◌==◌, cond, map}
-use Rattle.c_prog.specs.Operators.{floor}
+use Rattle.c_base.specs.Operators.{floor}
 use Rattle.ival_core.specs.declared.value.Progression.{Progression}
 use Rattle.ival_core.specs.declared.value.Shape.{Shape}
 use Rattle.ival_core.specs.declared.value.Shape.TheVariants.{Few, Many}

@@ -1,11 +1,11 @@
 -- With which kinds an operator is undefined for numbers of two sets.
 use Rattle.std.specs.Prelude.{ℕ, ◌%◌, ◌^◌, ◌==◌, Bool, true, false, cond, ◌&&◌, ◌||◌, ℤ, pos, negsuc, neg_ℤ, ◌≤ℤ◌, ◌+ℤ◌, ◌*ℤ◌, int_le, int_lt, Option, Some, None}
-use Rattle.c_prog.specs.declared.tree.BinOp.{BinOp}
-use Rattle.c_prog.specs.declared.tree.BinOp.TheVariants.{Add, Sub, Mul, Div, Rem}
-use Rattle.c_prog.specs.declared.kind.Kind.TheVariants.{DivisionByZero, SignedOverflow}
-use Rattle.c_prog.specs.declared.kind.KindSet.{KindSet}
-use Rattle.c_prog.specs.KindSets.{no_kinds, with_kind}
-use Rattle.c_prog.specs.Integers.{least_of, greatest_of}
+use Rattle.c_base.specs.declared.operators.BinOp.{BinOp}
+use Rattle.c_base.specs.declared.operators.BinOp.TheVariants.{Add, Sub, Mul, Div, Rem}
+use Rattle.c_base.specs.declared.kind.Kind.TheVariants.{DivisionByZero, SignedOverflow}
+use Rattle.c_base.specs.declared.kind.KindSet.{KindSet}
+use Rattle.c_base.specs.KindSets.{no_kinds, with_kind}
+use Rattle.c_base.specs.Integers.{least_of, greatest_of}
 use Rattle.ival_core.specs.declared.value.Shape.{Shape}
 use Rattle.ival_core.specs.declared.value.Shape.TheVariants.{Few, Many}
 use Rattle.ival_core.specs.Sets.{apart}

@@ -1,7 +1,7 @@
 -- Sets that are made of other sets: the same numbers changed, cut, or taken modulo m.
 use Rattle.std.specs.Prelude.{◌<◌, ℕ, zero, suc, ◌+◌, ◌-◌, ◌*◌, ◌/◌, ◌%◌, nat_lt, Bool, false, cond, ◌&&◌, ◌||◌, ℤ, pos, neg_ℤ, ◌+ℤ◌, ◌*ℤ◌, int_le, int_lt, List, [], ◌∷◌, map}
 use Rattle.std.specs.Int.{int_min, int_max, int_rem_euclid}
-use Rattle.c_prog.specs.Integers.{residue}
+use Rattle.c_base.specs.Integers.{residue}
 use Rattle.ival_core.specs.declared.value.Progression.{Progression}
 use Rattle.ival_core.specs.declared.value.Shape.{Shape}
 use Rattle.ival_core.specs.declared.value.Shape.TheVariants.{Few, Many}

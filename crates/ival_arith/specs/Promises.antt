@@ -1,15 +1,15 @@
 -- What the calls promise.
 use Rattle.std.specs.Prelude.{ℕ, ◌≡◌, Bool, not, ◌&&◌, ℤ, neg_ℤ, int_lt, int_le, Result}
-use Rattle.c_prog.specs.declared.tree.Rel.{Rel}
-use Rattle.c_prog.specs.declared.tree.Rel.TheVariants.{Lt, Le, Gt, Ge, Eq, Ne}
-use Rattle.c_prog.specs.declared.tree.BinOp.{BinOp}
-use Rattle.c_prog.specs.declared.tree.BinOp.TheVariants.{Add, Sub, Mul, Div, Rem}
-use Rattle.c_prog.specs.declared.tree.UnOp.TheVariants.{Neg}
-use Rattle.c_prog.specs.declared.tree.IntKind.{IntKind}
-use Rattle.c_prog.specs.declared.tree.Machine.{Machine}
-use Rattle.c_prog.specs.declared.kind.Kind.{Kind}
-use Rattle.c_prog.specs.Integers.{FitsKind, FitsBits}
-use Rattle.c_prog.specs.Operators.{applied, applied_unary}
+use Rattle.c_base.specs.declared.operators.Rel.{Rel}
+use Rattle.c_base.specs.declared.operators.Rel.TheVariants.{Lt, Le, Gt, Ge, Eq, Ne}
+use Rattle.c_base.specs.declared.operators.BinOp.{BinOp}
+use Rattle.c_base.specs.declared.operators.BinOp.TheVariants.{Add, Sub, Mul, Div, Rem}
+use Rattle.c_base.specs.declared.operators.UnOp.TheVariants.{Neg}
+use Rattle.c_base.specs.declared.integer.IntKind.{IntKind}
+use Rattle.c_base.specs.declared.integer.Machine.{Machine}
+use Rattle.c_base.specs.declared.kind.Kind.{Kind}
+use Rattle.c_base.specs.Integers.{FitsKind, FitsBits}
+use Rattle.c_base.specs.Operators.{applied, applied_unary}
 use Rattle.ival_core.specs.declared.value.Ival.{Ival}
 use Rattle.ival_core.specs.declared.value.Shape.{Shape}
 use Rattle.ival_core.specs.declared.value.Shape.TheVariants.{Few, Many}

@@ -1,6 +1,6 @@
 -- Products, quotients and remainders that neither wrap nor leave the numbers that an `Ival` may hold.
 use Rattle.std.specs.Prelude.{◌<◌, ℕ, ◌-◌, ◌*◌, ◌^◌, nat_lt, Bool, false, cond, ◌&&◌, ℤ, pos, neg_ℤ, ◌*ℤ◌, int_lt, int_div, int_rem, unsigned_abs, min, List, [], ◌∷◌, ◌++◌, Option, Some, None}
-use Rattle.c_prog.specs.Operators.{is_zero}
+use Rattle.c_base.specs.Operators.{is_zero}
 use Rattle.ival_core.specs.declared.value.Ival.{Ival}
 use Rattle.ival_core.specs.declared.value.Shape.{Shape}
 use Rattle.ival_core.specs.declared.value.Shape.TheVariants.{Few, Many}

@@ -1,8 +1,8 @@
 //! The operators of arithmetic on sets of integers (C11 6.5.3.3, 6.5.5 and 6.5.6).
 
 ghost use Rattle.std.specs.Prelude.{◌≡◌, ◌↔◌, ℤ, ◌+ℤ◌, ◌-ℤ◌, IsTrue, Ok, Err, true, false};
-ghost use Rattle.c_prog.specs.Integers.{FitsBits, is_signed, width_of};
-ghost use Rattle.c_prog.specs.KindSets.{allowed};
+ghost use Rattle.c_base.specs.Integers.{FitsBits, is_signed, width_of};
+ghost use Rattle.c_base.specs.KindSets.{allowed};
 ghost use Rattle.ival_core.specs.Sets.{IsLeast, HoldsNine};
 ghost use Rattle.ival_core.specs.Ivals.{Holds};
 ghost use Rattle.ival_arith.specs.Answers.{typed, binary_value, binary_kinds, negated, negated_kinds, negate_value, negate_kinds};
@@ -13,8 +13,9 @@ use crate::format::{Format, format_of, power};
 use crate::kinds::{holds_number, kind_set, kinds};
 use crate::pieces::{Change, changed, clipped};
 use crate::values::residues;
-use c_prog::kind::{Kind, KindSet};
-use c_prog::tree::{BinOp, IntKind, Machine};
+use c_base::integer::{IntKind, Machine};
+use c_base::kind::{Kind, KindSet};
+use c_base::operators::BinOp;
 use ival_core::Ival;
 
 /// What an operator gives on sets of numbers.

@@ -1,7 +1,7 @@
 //! C's arithmetic on sets of integers (C11 6.5.3.3, 6.5.5 and 6.5.6).
 
 ghost use Rattle.std.specs.Prelude.{◌≡◌, ◌↔◌, ◌<◌, ◌≤◌, ℤ, pos, ◌+ℤ◌, ◌≤ℤ◌, IsTrue, false, ◌&&◌, ◌*◌, ◌^◌, ◌-◌, ◌+◌, min};
-ghost use Rattle.c_prog.specs.Integers.{FitsBits, least_of, greatest_of};
+ghost use Rattle.c_base.specs.Integers.{FitsBits, least_of, greatest_of};
 ghost use Rattle.ival_core.specs.Sets.{IsNumber, IsLongRun, Has};
 ghost use Rattle.ival_core.specs.Ivals.{Holds};
 ghost use Rattle.ival_core.specs.Views.{bounds_of};
@@ -17,8 +17,9 @@ use crate::products::{extent, is_natural, lines, spread};
 use crate::runs::{all_repeat, first_products, least_factor, near_products};
 use crate::sums::sums;
 use crate::values::{few_results, residues};
-use c_prog::kind::{Kind, KindSet};
-use c_prog::tree::{BinOp, IntKind, Machine};
+use c_base::integer::{IntKind, Machine};
+use c_base::kind::{Kind, KindSet};
+use c_base::operators::BinOp;
 use ival_core::{Ival, Progression, Shape};
 
 const LIMIT: i128 = 0x100_0000_0000_0000_0000_0000_0000_0000;

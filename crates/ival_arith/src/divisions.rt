@@ -1,7 +1,7 @@
 //! Quotients and remainders of the numbers of a set by single numbers (C11 6.5.5).
 
 ghost use Rattle.std.specs.Prelude.{◌≡◌, ◌<◌, ◌≤◌, ◌^◌, ℤ, pos, ◌&&◌};
-ghost use Rattle.c_prog.specs.Integers.{FitsBits};
+ghost use Rattle.c_base.specs.Integers.{FitsBits};
 ghost use Rattle.ival_core.specs.Sets.{Among};
 ghost use Rattle.ival_core.specs.Ivals.{Holds};
 ghost use Rattle.ival_arith.specs.Pieces.{none, all_changed};

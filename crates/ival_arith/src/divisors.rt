@@ -1,7 +1,7 @@
 //! Quotients and remainders of single numbers by the numbers of long sets (C11 6.5.5).
 
 ghost use Rattle.std.specs.Prelude.{◌≡◌, ◌<◌, ◌≤◌, ◌^◌, ℤ, Some};
-ghost use Rattle.c_prog.specs.Integers.{FitsBits, FitsKind};
+ghost use Rattle.c_base.specs.Integers.{FitsBits, FitsKind};
 ghost use Rattle.ival_core.specs.Sets.{IsNumber, IsLongRun, Among, Steps, steps_from};
 ghost use Rattle.ival_core.specs.Ivals.{Holds};
 ghost use Rattle.ival_core.specs.Joined.{with_numbers};
@@ -16,8 +16,7 @@ use crate::format::Format;
 use crate::kinds::either;
 use crate::pieces::{clipped, with};
 use crate::values::{with_result, with_row};
-use c_mean::operators::apply_binary;
-use c_prog::tree::BinOp;
+use c_base::operators::{BinOp, apply_binary};
 use ival_core::{Ival, Progression, Shape};
 
 /// How many divisors are tried, at most, once there are more than 8 results.

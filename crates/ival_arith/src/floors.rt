@@ -1,7 +1,7 @@
 //! The numbers of sets, each divided by a positive number and rounded down.
 
 ghost use Rattle.std.specs.Prelude.{◌≡◌, ◌<◌, ◌≤◌, ◌^◌, ◌%◌, ◌/◌, ◌==◌, cond, map};
-ghost use Rattle.c_prog.specs.Operators as operators;
+ghost use Rattle.c_base.specs.Operators as operators;
 ghost use Rattle.ival_core.specs.Sets.{IsNumber, AllNumbers, IsLongRun};
 ghost use Rattle.ival_arith.specs.Pieces.{gathered};
 ghost use Rattle.ival_arith.specs.Floors.{run_floored, floored};

@@ -1,10 +1,10 @@
 //! How a type keeps its numbers.
 
 ghost use Rattle.std.specs.Prelude.{◌≡◌, ◌<◌, ◌≤◌, ◌^◌, ◌-◌, pos, ◌≤ℤ◌};
-ghost use Rattle.c_prog.specs.Integers as integers;
+ghost use Rattle.c_base.specs.Integers as integers;
 ghost use Rattle.ival_core.specs.Sets.{IsNumber};
 
-use c_prog::tree::{IntKind, Machine};
+use c_base::integer::{IntKind, Machine};
 
 /// An integer type of a machine: with or without a sign, in `width` bits.
 #[derive(Clone, Copy)]

@@ -1,7 +1,7 @@
 //! With which kinds an operator is undefined for numbers of two sets of a type.
 
 ghost use Rattle.std.specs.Prelude.{◌≡◌, ℤ, pos, negsuc, ◌+ℤ◌, ◌*ℤ◌, int_lt, true, false, ◌&&◌, ◌||◌};
-ghost use Rattle.c_prog.specs.Integers.{least_of, greatest_of};
+ghost use Rattle.c_base.specs.Integers.{least_of, greatest_of};
 ghost use Rattle.ival_core.specs.Sets.{IsNumber};
 ghost use Rattle.ival_core.specs.Ivals.{Holds};
 ghost use Rattle.ival_core.specs.Views.{bounds_of};
@@ -10,8 +10,8 @@ ghost use Rattle.ival_arith.specs.Promises.{InType};
 
 use crate::format::Format;
 use crate::pieces::{Change, changed};
-use c_prog::kind::{Kind, KindSet};
-use c_prog::tree::BinOp;
+use c_base::kind::{Kind, KindSet};
+use c_base::operators::BinOp;
 use ival_core::Ival;
 
 /// `n` is one of the numbers.

@@ -1,7 +1,7 @@
 //! Products of the numbers of two sets of a type.
 
 ghost use Rattle.std.specs.Prelude.{◌≡◌, ◌<◌, ◌≤◌, ◌^◌, ◌*◌, ℤ, pos, ◌≤ℤ◌, ◌<ℤ◌, false, cond, neg_ℤ, true, unsigned_abs};
-ghost use Rattle.c_prog.specs.Integers.{FitsBits};
+ghost use Rattle.c_base.specs.Integers.{FitsBits};
 ghost use Rattle.ival_core.specs.Sets.{IsNumber, IsLongRun, Among, Steps};
 ghost use Rattle.ival_core.specs.Ivals.{Holds};
 ghost use Rattle.ival_arith.specs.Pieces.{none, run_negated};

@@ -3,7 +3,7 @@
 ghost use Rattle.std.specs.Prelude.{◌≡◌, ◌↔◌, IsTrue, true, false};
 ghost use Rattle.ival_arith.specs.Promises.{Compares};
 
-use c_prog::tree::Rel;
+use c_base::operators::Rel;
 use ival_core::Ival;
 
 /// Which truths a relation may have.

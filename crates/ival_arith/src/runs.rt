@@ -1,7 +1,7 @@
 //! Products of two long sets in a type (C11 6.5.5).
 
 ghost use Rattle.std.specs.Prelude.{◌≡◌, ◌<◌, ◌≤◌, ◌^◌, ◌*◌, ℤ, true};
-ghost use Rattle.c_prog.specs.Integers.{FitsBits};
+ghost use Rattle.c_base.specs.Integers.{FitsBits};
 ghost use Rattle.ival_core.specs.Sets.{IsLongRun, Among, Steps, steps_from};
 ghost use Rattle.ival_core.specs.Ivals.{Holds};
 ghost use Rattle.ival_arith.specs.Exact.{shape_option};
@@ -17,7 +17,7 @@ use crate::pieces::{clipped, join};
 use crate::products::{line, lines_onto};
 use crate::sums::eight;
 use crate::values::few_results;
-use c_prog::tree::BinOp;
+use c_base::operators::BinOp;
 use ival_core::{Ival, Progression, Shape};
 
 const LIMIT: i128 = 0x100_0000_0000_0000_0000_0000_0000_0000;

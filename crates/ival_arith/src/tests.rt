@@ -3,8 +3,9 @@ ghost use Rattle.ival_arith.specs.Promises.{IsArithmetic};
 use crate::{
     Answer, binary, compare, exact_add, exact_div, exact_mul, exact_rem, exact_sub, negate,
 };
-use c_prog::kind::Kind;
-use c_prog::tree::{BinOp, IntKind, Machine, Rel};
+use c_base::integer::{IntKind, Machine};
+use c_base::kind::Kind;
+use c_base::operators::{BinOp, Rel};
 use ival_core::Ival;
 use std::test::Fail;
 

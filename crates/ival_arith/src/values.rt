@@ -1,8 +1,8 @@
 //! Results of operators on sets of numbers of a type.
 
 ghost use Rattle.std.specs.Prelude.{◌≡◌, ◌<◌, ◌≤◌, ◌^◌, ℤ, pos, ◌+ℤ◌, IfOk, [], ◌/◌, ◌%◌, map};
-ghost use Rattle.c_prog.specs.Integers as integers;
-ghost use Rattle.c_prog.specs.Integers.{FitsKind};
+ghost use Rattle.c_base.specs.Integers as integers;
+ghost use Rattle.c_base.specs.Integers.{FitsKind};
 ghost use Rattle.ival_core.specs.Sets.{IsNumber, IsLongRun, Among};
 ghost use Rattle.ival_core.specs.Ivals.{Holds};
 ghost use Rattle.ival_core.specs.Joined.{with_numbers};
@@ -12,9 +12,8 @@ ghost use Rattle.ival_arith.specs.Values.{kept, row, rows, residues, added};
 use crate::format::{Format, power};
 use crate::pieces::{cycle, with};
 use crate::sums::sums;
-use c_mean::operators::apply_binary;
-use c_prog::kind::Kind;
-use c_prog::tree::BinOp;
+use c_base::kind::Kind;
+use c_base::operators::{BinOp, apply_binary};
 use ival_core::{Ival, Progression, Shape};
 
 const LIMIT: i128 = 0x100_0000_0000_0000_0000_0000_0000_0000;

@@ -7,11 +7,11 @@ use Rattle.std.proofs.lemmas.Bool.{cases_lt}
 use Rattle.std.proofs.lemmas.Nat.{pow_pos, div-add-mod', mul-le, or_shifted, or_comm, xor_block, xor_comm}
 use Rattle.std.proofs.Math.Nat.{mod-eq_of_lt}
 use lib.Signed.{◌<ℤ◌, ◌≤ℤ◌}
-use Rattle.c_prog.specs.declared.tree.BinOp.{BinOp}
-use Rattle.c_prog.specs.declared.tree.BinOp.TheVariants.{Or, Xor}
-use Rattle.c_prog.specs.Integers.{FitsBits, residue, greatest_of, signed_number}
-use Rattle.c_prog.specs.Operators.{operated, floor, on_bits, xor}
-use Rattle.c_prog.proofs.Residues.{residue_below, residue_differs, residue_is}
+use Rattle.c_base.specs.declared.operators.BinOp.{BinOp}
+use Rattle.c_base.specs.declared.operators.BinOp.TheVariants.{Or, Xor}
+use Rattle.c_base.specs.Integers.{FitsBits, residue, greatest_of, signed_number}
+use Rattle.c_base.specs.Operators.{operated, floor, on_bits, xor}
+use Rattle.c_base.proofs.Residues.{residue_below, residue_differs, residue_is}
 use Rattle.ival_core.specs.declared.value.Shape.{Shape}
 use Rattle.ival_core.specs.Sets.{IsNumber, Has}
 use Rattle.ival_core.specs.Views.{bounds_of, single_of}

@@ -7,14 +7,14 @@ use Rattle.std.proofs.lemmas.Bool.{lt-ltb, le-ltb}
 use Rattle.std.proofs.lemmas.Nat.{pow_pos, pow-add, and_shr, or_shr, xor_shr, and_le_l, le_or_l, le_or_r, or_lt, xor_lt, div-mul-add, div-add-mod', mod_below, and_comm, and_mask}
 use Rattle.std.proofs.Math.Nat.{mod-eq_of_lt, div-eq_of_lt, pow-le-pow_right}
 use lib.Signed.{◌≤ℤ◌}
-use Rattle.c_prog.specs.declared.kind.Kind.{Kind}
-use Rattle.c_prog.specs.declared.tree.BinOp.{BinOp}
-use Rattle.c_prog.specs.declared.tree.BinOp.TheVariants.{And, Or, Xor}
-use Rattle.c_prog.specs.Integers.{FitsBits, residue, signed_number}
-use Rattle.c_prog.specs.Operators.{operated, on_bits, xor}
-use Rattle.c_prog.proofs.Residues.{residue_below, residue_differs, residue_same}
-use Rattle.c_prog.proofs.Products.{mul_assoc}
-use Rattle.c_mean.proofs.Singles.{and_is, or_is, xor_is}
+use Rattle.c_base.specs.declared.kind.Kind.{Kind}
+use Rattle.c_base.specs.declared.operators.BinOp.{BinOp}
+use Rattle.c_base.specs.declared.operators.BinOp.TheVariants.{And, Or, Xor}
+use Rattle.c_base.specs.Integers.{FitsBits, residue, signed_number}
+use Rattle.c_base.specs.Operators.{operated, on_bits, xor}
+use Rattle.c_base.proofs.Residues.{residue_below, residue_differs, residue_same}
+use Rattle.c_base.proofs.Products.{mul_assoc}
+use Rattle.c_base.proofs.Singles.{and_is, or_is, xor_is}
 use Rattle.ival_arith.proofs.Making.{IsWidth}
 use Rattle.ival_arith.proofs.Words.{half}
 use Rattle.ival_bits.specs.Spans.{Within}

@@ -1,8 +1,8 @@
 -- What operators on the bits of numbers of two sets hold.
 use Rattle.std.proofs.Common.{◌≡◌, ◌⊎◌, ℕ, ◌^◌, Bool, true, false, cond, ℤ, pos, List, Option, Some, None, refl, inl, inr}
 use Rattle.std.specs.Prelude.{neg_ℤ}
-use Rattle.c_prog.specs.declared.tree.BinOp.{BinOp}
-use Rattle.c_prog.specs.declared.tree.BinOp.TheVariants.{And, Or, Xor}
+use Rattle.c_base.specs.declared.operators.BinOp.{BinOp}
+use Rattle.c_base.specs.declared.operators.BinOp.TheVariants.{And, Or, Xor}
 use Rattle.ival_core.specs.declared.value.Shape.{Shape}
 use Rattle.ival_core.specs.declared.value.Shape.TheVariants.{Few, Many}
 use Rattle.ival_core.specs.Sets.{Among, Has}

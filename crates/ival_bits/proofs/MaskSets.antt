@@ -7,10 +7,10 @@ use Rattle.std.proofs.lemmas.List.{length-map}
 use Rattle.std.proofs.lemmas.Nat.{pow_pos, div-add-mod', mod_below, and-not, and_comm, and_mask}
 use Rattle.std.proofs.Math.Nat.{mod-eq_of_lt, pow-le-pow_right, pow-suc}
 use lib.Signed.{◌<ℤ◌, ◌≤ℤ◌}
-use Rattle.c_prog.specs.declared.tree.BinOp.TheVariants.{And}
-use Rattle.c_prog.specs.Integers.{FitsBits, residue, least_of, greatest_of}
-use Rattle.c_prog.specs.Operators.{operated, on_bits, floor}
-use Rattle.c_prog.proofs.Residues.{residue_below, residue_differs, residue_is}
+use Rattle.c_base.specs.declared.operators.BinOp.TheVariants.{And}
+use Rattle.c_base.specs.Integers.{FitsBits, residue, least_of, greatest_of}
+use Rattle.c_base.specs.Operators.{operated, on_bits, floor}
+use Rattle.c_base.proofs.Residues.{residue_below, residue_differs, residue_is}
 use Rattle.ival_core.specs.declared.value.Shape.{Shape}
 use Rattle.ival_core.specs.declared.value.Shape.TheVariants.{Few, Many}
 use Rattle.ival_core.specs.Sets.{IsNumber, IsValid, Has}

@@ -1,11 +1,11 @@
 -- Results for numbers in a type's range, by the sets cut to it.
 use Rattle.std.proofs.Common.{◌≡◌, ◌↔◌, ℤ, Result, Ok, Err, inl, inr}
-use Rattle.c_prog.specs.declared.kind.Kind.{Kind}
-use Rattle.c_prog.specs.declared.tree.BinOp.{BinOp}
-use Rattle.c_prog.specs.declared.tree.IntKind.{IntKind}
-use Rattle.c_prog.specs.declared.tree.Machine.{Machine}
-use Rattle.c_prog.specs.Integers.{is_signed, width_of}
-use Rattle.c_prog.specs.Operators.{applied}
+use Rattle.c_base.specs.declared.kind.Kind.{Kind}
+use Rattle.c_base.specs.declared.operators.BinOp.{BinOp}
+use Rattle.c_base.specs.declared.integer.IntKind.{IntKind}
+use Rattle.c_base.specs.declared.integer.Machine.{Machine}
+use Rattle.c_base.specs.Integers.{is_signed, width_of}
+use Rattle.c_base.specs.Operators.{applied}
 use Rattle.ival_core.specs.declared.value.Ival.{Ival}
 use Rattle.ival_core.specs.declared.value.Shape.{Shape}
 use Rattle.ival_core.specs.Sets.{Has, HoldsNine}

@@ -5,9 +5,9 @@ use Rattle.std.proofs.lemmas.Int.{ints}
 use Rattle.std.proofs.lemmas.Nat.{pow_pos}
 use Rattle.std.proofs.lemmas.Nat.{pow-add, mul-le}
 use lib.Signed.{◌<ℤ◌, ◌≤ℤ◌}
-use Rattle.c_prog.specs.Integers.{residue}
-use Rattle.c_prog.specs.Operators.{floor}
-use Rattle.c_prog.proofs.Residues.{residue_below}
+use Rattle.c_base.specs.Integers.{residue}
+use Rattle.c_base.specs.Operators.{floor}
+use Rattle.c_base.proofs.Residues.{residue_below}
 use Rattle.ival_core.specs.declared.value.Ival.{Ival}
 use Rattle.ival_core.specs.declared.value.Shape.{Shape}
 use Rattle.ival_core.specs.declared.value.Shape.TheVariants.{Few}

@@ -5,14 +5,14 @@ use Rattle.std.proofs.lemmas.Int.{ints}
 use Rattle.std.proofs.lemmas.Nat.{pow_pos}
 use Rattle.std.proofs.Math.Nat.{pow-le-pow_right}
 use lib.Signed.{◌<ℤ◌, ◌≤ℤ◌}
-use Rattle.c_prog.specs.declared.kind.Kind.{Kind}
-use Rattle.c_prog.specs.declared.kind.Kind.TheVariants.{Shift}
-use Rattle.c_prog.specs.declared.tree.BinOp.{BinOp}
-use Rattle.c_prog.specs.declared.tree.BinOp.TheVariants.{Shl, Shr}
-use Rattle.c_prog.specs.KindSets.{allowed, no_kinds}
-use Rattle.c_prog.specs.Integers.{fits_bits, greatest_of}
-use Rattle.c_prog.specs.Operators.{operated, in_type, is_count, floor}
-use Rattle.c_prog.proofs.KindSets.{with_kind-allows, no_kinds-allow}
+use Rattle.c_base.specs.declared.kind.Kind.{Kind}
+use Rattle.c_base.specs.declared.kind.Kind.TheVariants.{Shift}
+use Rattle.c_base.specs.declared.operators.BinOp.{BinOp}
+use Rattle.c_base.specs.declared.operators.BinOp.TheVariants.{Shl, Shr}
+use Rattle.c_base.specs.KindSets.{allowed, no_kinds}
+use Rattle.c_base.specs.Integers.{fits_bits, greatest_of}
+use Rattle.c_base.specs.Operators.{operated, in_type, is_count, floor}
+use Rattle.c_base.proofs.KindSets.{with_kind-allows, no_kinds-allow}
 use Rattle.ival_core.specs.declared.value.Shape.{Shape}
 use Rattle.ival_core.specs.Sets.{Has, IsValid}
 use Rattle.ival_core.specs.Views.{bounds_of}

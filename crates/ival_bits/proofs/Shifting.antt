@@ -5,14 +5,14 @@ use Rattle.std.proofs.lemmas.Int.{ints, by_lt_z}
 use Rattle.std.proofs.lemmas.Nat.{pow_pos, pow-add, mul-le}
 use Rattle.std.proofs.lemmas.Bool.{cases_lt}
 use lib.Signed.{◌<ℤ◌, ◌≤ℤ◌}
-use Rattle.c_prog.specs.declared.kind.Kind.{Kind}
-use Rattle.c_prog.specs.declared.kind.Kind.TheVariants.{Shift}
-use Rattle.c_prog.specs.declared.tree.BinOp.{BinOp}
-use Rattle.c_prog.specs.declared.tree.BinOp.TheVariants.{Shl, Shr}
-use Rattle.c_prog.specs.Integers.{fits_bits, residue, least_of, greatest_of}
-use Rattle.c_prog.specs.Operators.{operated, in_type, is_count, floor, shifted_left, shifted_right}
-use Rattle.c_prog.proofs.Residues.{residue_below, residue_differs, residue_is}
-use Rattle.c_prog.proofs.Products.{add-mul, mul_assoc}
+use Rattle.c_base.specs.declared.kind.Kind.{Kind}
+use Rattle.c_base.specs.declared.kind.Kind.TheVariants.{Shift}
+use Rattle.c_base.specs.declared.operators.BinOp.{BinOp}
+use Rattle.c_base.specs.declared.operators.BinOp.TheVariants.{Shl, Shr}
+use Rattle.c_base.specs.Integers.{fits_bits, residue, least_of, greatest_of}
+use Rattle.c_base.specs.Operators.{operated, in_type, is_count, floor, shifted_left, shifted_right}
+use Rattle.c_base.proofs.Residues.{residue_below, residue_differs, residue_is}
+use Rattle.c_base.proofs.Products.{add-mul, mul_assoc}
 use Rattle.ival_core.specs.declared.value.Shape.{Shape}
 use Rattle.ival_core.specs.Sets.{IsNumber, IsValid, Has}
 use Rattle.ival_core.specs.Joined.{joined}

@@ -7,7 +7,7 @@ use Rattle.std.proofs.lemmas.Bool.{cases_lt}
 use Rattle.std.proofs.lemmas.Nat.{leading_length, pow_pos}
 use Rattle.std.proofs.Math.Nat.{pow-le-pow_right, pow-suc}
 use lib.Signed.{◌<ℤ◌, ◌≤ℤ◌}
-use Rattle.c_prog.specs.Integers.{FitsBits}
+use Rattle.c_base.specs.Integers.{FitsBits}
 use Rattle.ival_core.specs.Sets.{IsNumber}
 use Rattle.ival_bits.specs.Spans.{Within, length_of, sized}
 

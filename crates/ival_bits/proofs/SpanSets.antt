@@ -6,9 +6,9 @@ use Rattle.std.proofs.lemmas.Int.{ints, clamps}
 use Rattle.std.proofs.lemmas.Nat.{pow_pos}
 use Rattle.std.proofs.Math.Nat.{one-dvd}
 use lib.Signed.{◌≤ℤ◌}
-use Rattle.c_prog.specs.declared.tree.BinOp.{BinOp}
-use Rattle.c_prog.specs.declared.tree.BinOp.TheVariants.{And, Or, Xor}
-use Rattle.c_prog.specs.Integers.{FitsBits}
+use Rattle.c_base.specs.declared.operators.BinOp.{BinOp}
+use Rattle.c_base.specs.declared.operators.BinOp.TheVariants.{And, Or, Xor}
+use Rattle.c_base.specs.Integers.{FitsBits}
 use Rattle.ival_core.specs.declared.value.Shape.{Shape}
 use Rattle.ival_core.specs.Sets.{apart, IsNumber, Has}
 use Rattle.ival_core.proofs.Orders.{le_true}

@@ -4,8 +4,8 @@ use Rattle.std.specs.Prelude.{neg_ℤ, int_le, unsigned_abs}
 use Rattle.std.specs.Int.{w128}
 use Rattle.std.proofs.lemmas.Int.{ints, to_z-of_z, to_z_pos}
 use lib.Signed.{◌≤ℤ◌}
-use Rattle.c_prog.specs.Integers.{greatest_of}
-use Rattle.c_prog.specs.Operators.{reduced}
+use Rattle.c_base.specs.Integers.{greatest_of}
+use Rattle.c_base.specs.Operators.{reduced}
 use Rattle.ival_core.specs.declared.value.Progression.{Progression}
 use Rattle.ival_core.specs.Sets.{apart, IsNumber}
 use Rattle.ival_core.proofs.Runs.{number_fits}

@@ -5,9 +5,9 @@ use Rattle.std.proofs.lemmas.Int.{ints}
 use Rattle.std.proofs.lemmas.Nat.{pow_pos}
 use Rattle.std.proofs.lemmas.Bool.{ltb-true, ltb-false}
 use lib.Signed.{◌≤ℤ◌}
-use Rattle.c_prog.specs.Integers.{FitsBits, residue, signed_number, greatest_of}
-use Rattle.c_prog.specs.Operators.{reduced}
-use Rattle.c_prog.proofs.Residues.{residue_below}
+use Rattle.c_base.specs.Integers.{FitsBits, residue, signed_number, greatest_of}
+use Rattle.c_base.specs.Operators.{reduced}
+use Rattle.c_base.proofs.Residues.{residue_below}
 use Rattle.ival_core.specs.declared.value.Progression.{Progression}
 use Rattle.ival_core.specs.declared.value.Ival.{Ival}
 use Rattle.ival_core.specs.declared.value.Shape.{Shape}

@@ -6,10 +6,10 @@ use Rattle.std.proofs.lemmas.Nat.{pow_pos}
 use Rattle.std.proofs.lemmas.Bool.{lt-ltb, le-ltb, ltb-true, ltb-false}
 use Rattle.std.proofs.Math.Nat.{mod-eq_of_lt}
 use lib.Signed.{◌≤ℤ◌}
-use Rattle.c_prog.specs.Integers.{FitsBits, residue, signed_number, least_of, greatest_of}
-use Rattle.c_prog.specs.Operators.{reduced}
-use Rattle.c_prog.proofs.Residues.{Same, residue_below, residue_same, residue_differs}
-use Rattle.c_prog.proofs.Products.{add-mul, mul-neg}
+use Rattle.c_base.specs.Integers.{FitsBits, residue, signed_number, least_of, greatest_of}
+use Rattle.c_base.specs.Operators.{reduced}
+use Rattle.c_base.proofs.Residues.{Same, residue_below, residue_same, residue_differs}
+use Rattle.c_base.proofs.Products.{add-mul, mul-neg}
 use lib.IntN.{*ℤ_comm}
 use Rattle.ival_arith.proofs.Words.{half}
 

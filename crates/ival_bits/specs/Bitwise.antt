@@ -1,11 +1,11 @@
 -- Operators on the bits of the numbers of two sets (C11 6.5.10 to 6.5.12).
 use Rattle.std.specs.Prelude.{ℕ, ◌^◌, Bool, false, cond, ◌||◌, ℤ, pos, neg_ℤ, int_lt, Option, Some, None}
-use Rattle.c_prog.specs.declared.tree.BinOp.{BinOp}
-use Rattle.c_prog.specs.declared.tree.BinOp.TheVariants.{And}
-use Rattle.c_prog.specs.declared.tree.IntKind.{IntKind}
-use Rattle.c_prog.specs.declared.tree.Machine.{Machine}
-use Rattle.c_prog.specs.Integers.{is_signed, width_of}
-use Rattle.c_prog.specs.Operators.{is_zero}
+use Rattle.c_base.specs.declared.operators.BinOp.{BinOp}
+use Rattle.c_base.specs.declared.operators.BinOp.TheVariants.{And}
+use Rattle.c_base.specs.declared.integer.IntKind.{IntKind}
+use Rattle.c_base.specs.declared.integer.Machine.{Machine}
+use Rattle.c_base.specs.Integers.{is_signed, width_of}
+use Rattle.c_base.specs.Operators.{is_zero}
 use Rattle.ival_core.specs.declared.value.Shape.{Shape}
 use Rattle.ival_core.specs.declared.value.Shape.TheVariants.{Few, Many}
 use Rattle.ival_core.specs.Views.{bounds_of, single_of}

@@ -1,6 +1,6 @@
 -- `&` with a mask (C11 6.5.10).
 use Rattle.std.specs.Prelude.{ℕ, ◌+◌, ◌^◌, ◌==◌, Bool, cond, ℤ, pos, negsuc, ◌+ℤ◌, ◌-ℤ◌, Option, Some, None}
-use Rattle.c_prog.specs.Integers.{least_of, greatest_of}
+use Rattle.c_base.specs.Integers.{least_of, greatest_of}
 use Rattle.ival_core.specs.declared.value.Shape.{Shape}
 use Rattle.ival_core.specs.Views.{single_of}
 use Rattle.ival_arith.specs.declared.pieces.Change.TheVariants.{Times}

@@ -1,7 +1,7 @@
 -- Parts of the numbers of sets.
 use Rattle.std.specs.Prelude.{ℕ, ◌^◌, ◌==◌, cond, ℤ, pos, neg_ℤ, ◌+ℤ◌, ◌*ℤ◌}
-use Rattle.c_prog.specs.Integers.{residue}
-use Rattle.c_prog.specs.Operators.{floor}
+use Rattle.c_base.specs.Integers.{residue}
+use Rattle.c_base.specs.Operators.{floor}
 use Rattle.ival_core.specs.declared.value.Shape.{Shape}
 use Rattle.ival_arith.specs.declared.pieces.Change.TheVariants.{Times}
 use Rattle.ival_arith.specs.Pieces.{all_changed}

@@ -1,7 +1,7 @@
 -- What the operators promise.
 use Rattle.std.specs.Prelude.{◌⊎◌, ℕ, Bool, IsTrue, Option, Some, None}
-use Rattle.c_prog.specs.declared.tree.BinOp.{BinOp}
-use Rattle.c_prog.specs.declared.tree.BinOp.TheVariants.{And, Or, Xor, Shl, Shr}
+use Rattle.c_base.specs.declared.operators.BinOp.{BinOp}
+use Rattle.c_base.specs.declared.operators.BinOp.TheVariants.{And, Or, Xor, Shl, Shr}
 use Rattle.ival_core.specs.declared.value.Shape.{Shape}
 use Rattle.ival_core.specs.declared.value.Shape.TheVariants.{Few}
 use Rattle.ival_bits.specs.Masks.{and_by}

@@ -1,13 +1,13 @@
 -- Shifts of the numbers of two sets (C11 6.5.7).
 use Rattle.std.specs.Prelude.{ℕ, zero, suc, ◌-◌, ◌^◌, Bool, true, false, cond, ◌&&◌, ◌||◌, ℤ, pos, int_le, int_lt, unsigned_abs, Option, Some, None}
-use Rattle.c_prog.specs.declared.tree.BinOp.{BinOp}
-use Rattle.c_prog.specs.declared.tree.BinOp.TheVariants.{Shl}
-use Rattle.c_prog.specs.declared.tree.IntKind.{IntKind}
-use Rattle.c_prog.specs.declared.tree.Machine.{Machine}
-use Rattle.c_prog.specs.declared.kind.Kind.TheVariants.{Shift}
-use Rattle.c_prog.specs.declared.kind.KindSet.{KindSet}
-use Rattle.c_prog.specs.KindSets.{no_kinds, with_kind}
-use Rattle.c_prog.specs.Integers.{is_signed, width_of}
+use Rattle.c_base.specs.declared.operators.BinOp.{BinOp}
+use Rattle.c_base.specs.declared.operators.BinOp.TheVariants.{Shl}
+use Rattle.c_base.specs.declared.integer.IntKind.{IntKind}
+use Rattle.c_base.specs.declared.integer.Machine.{Machine}
+use Rattle.c_base.specs.declared.kind.Kind.TheVariants.{Shift}
+use Rattle.c_base.specs.declared.kind.KindSet.{KindSet}
+use Rattle.c_base.specs.KindSets.{no_kinds, with_kind}
+use Rattle.c_base.specs.Integers.{is_signed, width_of}
 use Rattle.ival_core.specs.declared.value.Shape.{Shape}
 use Rattle.ival_core.specs.Joined.{joined}
 use Rattle.ival_core.specs.Views.{bounds_of}

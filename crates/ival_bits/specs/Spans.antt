@@ -1,8 +1,8 @@
 -- Bounds of what operators on bits make of numbers between bounds.
 use Rattle.std.specs.Prelude.{ℕ, ◌-◌, ◌^◌, Bool, false, cond, ◌&&◌, ℤ, pos, negsuc, neg_ℤ, ◌≤ℤ◌, ◌<ℤ◌, int_le, max, Option, Some, None}
 use Rattle.std.specs.Int.{w128, leading_zeros, int_min, int_max}
-use Rattle.c_prog.specs.declared.tree.BinOp.{BinOp}
-use Rattle.c_prog.specs.declared.tree.BinOp.TheVariants.{And, Or}
+use Rattle.c_base.specs.declared.operators.BinOp.{BinOp}
+use Rattle.c_base.specs.declared.operators.BinOp.TheVariants.{And, Or}
 use Rattle.ival_core.specs.declared.value.Shape.{Shape}
 use Rattle.ival_core.specs.Sets.{IsNumber}
 use Rattle.ival_arith.specs.Pieces.{none, run}

@@ -1,7 +1,7 @@
 -- The numbers of sets as values of integer types of any width (C11 6.3.1.3).
 use Rattle.std.specs.Prelude.{ℕ, ◌-◌, ◌^◌, Bool, true, false, cond, pos, neg_ℤ, ◌+ℤ◌, int_le}
-use Rattle.c_prog.specs.Integers.{greatest_of}
-use Rattle.c_prog.specs.Operators.{reduced}
+use Rattle.c_base.specs.Integers.{greatest_of}
+use Rattle.c_base.specs.Operators.{reduced}
 use Rattle.ival_core.specs.declared.value.Progression.{Progression}
 use Rattle.ival_core.specs.declared.value.Shape.{Shape}
 use Rattle.ival_core.specs.declared.value.Shape.TheVariants.{Few, Many}

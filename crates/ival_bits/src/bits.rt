@@ -1,8 +1,8 @@
 //! Operators on the bits of sets of integers (C11 6.5.10 to 6.5.12).
 
 ghost use Rattle.std.specs.Prelude.{◌≡◌, ◌≤◌, ◌^◌, ◌↔◌, ◌||◌, ℤ, IsTrue, IfSome, Some, Ok, Err};
-ghost use Rattle.c_prog.specs.Integers.{is_signed, width_of};
-ghost use Rattle.c_prog.specs.KindSets.{allowed, no_kinds};
+ghost use Rattle.c_base.specs.Integers.{is_signed, width_of};
+ghost use Rattle.c_base.specs.KindSets.{allowed, no_kinds};
 ghost use Rattle.ival_core.specs.Sets.{HoldsNine};
 ghost use Rattle.ival_core.specs.Ivals.{Holds};
 ghost use Rattle.ival_core.specs.Views.{bounds_of};
@@ -13,8 +13,9 @@ ghost use Rattle.ival_bits.specs.Bitwise.{low_bits, is_clear, is_apart, long_and
 
 use crate::masks::and_by;
 use crate::spans::{bounds_value, sized};
-use c_prog::kind::{Kind, KindSet};
-use c_prog::tree::{BinOp, IntKind, Machine};
+use c_base::integer::{IntKind, Machine};
+use c_base::kind::{Kind, KindSet};
+use c_base::operators::BinOp;
 use ival_arith::sums::sums;
 use ival_arith::{Answer, Format, few_results, format_of, power, residues, typed};
 use ival_core::{Ival, Shape};

@@ -1,7 +1,7 @@
 //! `&` with a mask (C11 6.5.10).
 
 ghost use Rattle.std.specs.Prelude.{◌≡◌, ◌<◌, ◌≤◌, ◌^◌, pos, ◌<ℤ◌, IfSome};
-ghost use Rattle.c_prog.specs.Integers.{FitsBits};
+ghost use Rattle.c_base.specs.Integers.{FitsBits};
 ghost use Rattle.ival_core.specs.Ivals.{Holds};
 ghost use Rattle.ival_arith.specs.Exact.{shape_option};
 ghost use Rattle.ival_arith.specs.Promises.{InType};

@@ -1,7 +1,7 @@
 //! Parts of numbers, and numbers made of two parts.
 
 ghost use Rattle.std.specs.Prelude.{◌≡◌, ◌<◌, ◌≤◌, ◌+◌, ◌-◌, ◌^◌, ◌%◌, ◌/◌, ◌==◌, ℤ, pos, ◌<ℤ◌, ◌≤ℤ◌, cond, map};
-ghost use Rattle.c_prog.specs.Operators as operators;
+ghost use Rattle.c_base.specs.Operators as operators;
 ghost use Rattle.ival_core.specs.Sets.{IsNumber, AllNumbers, IsLongRun};
 ghost use Rattle.ival_core.specs.Ivals.{Holds, IsOnly};
 ghost use Rattle.ival_arith.specs.Pieces.{gathered};

@@ -1,8 +1,8 @@
 //! Shifts of sets of integers (C11 6.5.7).
 
 ghost use Rattle.std.specs.Prelude.{◌≡◌, ◌<◌, ◌≤◌, ◌-◌, ◌^◌, ◌||◌, ◌↔◌, ℤ, pos, int_lt, int_le, IsTrue, Ok, Err};
-ghost use Rattle.c_prog.specs.Integers.{is_signed, width_of};
-ghost use Rattle.c_prog.specs.KindSets.{allowed};
+ghost use Rattle.c_base.specs.Integers.{is_signed, width_of};
+ghost use Rattle.c_base.specs.KindSets.{allowed};
 ghost use Rattle.ival_core.specs.Sets.{HoldsNine};
 ghost use Rattle.ival_core.specs.Ivals.{Holds};
 ghost use Rattle.ival_core.specs.Views.{bounds_of};
@@ -11,8 +11,9 @@ ghost use Rattle.ival_bits.specs.Promises.{IsShift};
 ghost use Rattle.ival_bits.specs.Shifts.{kept_left, shifted_by, shifts, miscounts, left_fails, shift_fails, shift_kind, shift_value, shift_kinds};
 
 use crate::wraps::{last, whole};
-use c_prog::kind::{Kind, KindSet};
-use c_prog::tree::{BinOp, IntKind, Machine};
+use c_base::integer::{IntKind, Machine};
+use c_base::kind::{Kind, KindSet};
+use c_base::operators::BinOp;
 use ival_arith::{
     Answer, Change, Format, changed, clipped, floored, format_of, holds_number, join, power,
     residues, typed,

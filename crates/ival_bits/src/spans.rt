@@ -9,7 +9,7 @@ ghost use Rattle.ival_arith.specs.Promises.{InType};
 ghost use Rattle.ival_bits.specs.Spans.{IsEnds, Within, length_of, sized, ends_sized, span, and_span, or_span, spanned, bounds_value};
 
 use crate::wraps::{last, negative};
-use c_prog::tree::BinOp;
+use c_base::operators::BinOp;
 use ival_arith::Format;
 use ival_core::{Ival, run_from};
 

@@ -2,8 +2,9 @@ ghost use Rattle.ival_core.specs.Sets.{IsNumber};
 ghost use Rattle.ival_bits.specs.Promises.{IsBitwise, IsShift};
 
 use crate::{bitwise, concat, extract, shift, wrap};
-use c_prog::kind::Kind;
-use c_prog::tree::{BinOp, IntKind, Machine};
+use c_base::integer::{IntKind, Machine};
+use c_base::kind::Kind;
+use c_base::operators::BinOp;
 use ival_arith::Answer;
 use ival_core::Ival;
 

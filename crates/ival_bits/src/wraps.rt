@@ -1,8 +1,8 @@
 //! The numbers of sets as values of integer types of any width (C11 6.3.1.3).
 
 ghost use Rattle.std.specs.Prelude.{◌≡◌, ◌<◌, ◌≤◌, ◌^◌, ◌-◌, ℤ, pos, neg_ℤ, ◌+ℤ◌};
-ghost use Rattle.c_prog.specs.Integers.{FitsBits, greatest_of};
-ghost use Rattle.c_prog.specs.Operators as operators;
+ghost use Rattle.c_base.specs.Integers.{FitsBits, greatest_of};
+ghost use Rattle.c_base.specs.Operators as operators;
 ghost use Rattle.ival_core.specs.Sets.{IsNumber, IsLongRun, apart};
 ghost use Rattle.ival_core.specs.Ivals.{Holds, IsOnly};
 ghost use Rattle.ival_arith.specs.Pieces.{all_changed, clipped};

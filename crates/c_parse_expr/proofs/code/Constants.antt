@@ -1,8 +1,8 @@
 -- An enum from its constants.
 use Rattle.std.proofs.Common.{◌≡◌, ℕ, ◌<◌, ◌≤◌, false, true, List, [], ◌∷◌, length, map, Option, None, Some, refl, sym, ap, ◌∙◌, arith}
-use Rattle.c_prog.specs.declared.number.Span.{Span}
-use Rattle.c_prog.specs.declared.token.Punctuator.TheVariants as mark
-use Rattle.c_prog.specs.declared.token.Token.{Token}
+use Rattle.c_base.specs.declared.number.Span.{Span}
+use Rattle.c_base.specs.declared.token.Punctuator.TheVariants as mark
+use Rattle.c_base.specs.declared.token.Token.{Token}
 use Rattle.c_tree.specs.declared.tree.Enumerator.{Enumerator}
 use Rattle.c_tree.specs.declared.tree.Specifier.{Specifier}
 use Rattle.c_tree.specs.Trees.{Tree}

@@ -1,6 +1,6 @@
 -- A tree that was found and what stands behind it, put together.
 use Rattle.std.proofs.Common.{◌≡◌, ℕ, ◌≤◌, nat_le, Bool, true, [], length, map, Result, Ok, Err, IfOk, refl, sym, ap, ◌∙◌}
-use Rattle.c_prog.specs.declared.number.Span.{Span}
+use Rattle.c_base.specs.declared.number.Span.{Span}
 use Rattle.c_tree.specs.Nesting.{nest}
 use Rattle.c_tree.specs.Trees.{Tree}
 use Rattle.c_tree.specs.Views.{listed}

@@ -1,6 +1,6 @@
 -- Runs, level by level.
 use Rattle.std.proofs.Common.{◌≡◌, ℕ, zero, suc, ◌+◌, ◌-◌, ◌<◌, ◌≤◌, nat_le, cond, List, [], ◌∷◌, length, refl, sym, ◌∙◌, arith}
-use Rattle.c_prog.specs.declared.number.Span.{Span}
+use Rattle.c_base.specs.declared.number.Span.{Span}
 use Rattle.c_tree.specs.Nesting.{nest}
 use Rattle.c_tree.specs.Views.{tree_of}
 use Rattle.c_tree.specs.WellFormed.{Names, after}

@@ -1,6 +1,6 @@
 -- Loops that read one thing after the other, where no names are declared.
 use Rattle.std.proofs.Common.{◌≡◌, ℕ, zero, suc, ◌<◌, ◌≤◌, List, [], ◌∷◌, ◌++◌, length, refl, sym, ◌∙◌, arith}
-use Rattle.c_prog.specs.declared.token.Token.{Token}
+use Rattle.c_base.specs.declared.token.Token.{Token}
 
 -- the plain loop, with rounds that are left, from what is found so far
 abbrev pub Listing : Type 0 → Type 0

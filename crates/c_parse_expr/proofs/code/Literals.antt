@@ -1,6 +1,6 @@
 -- Neighbouring string literals.
 use Rattle.std.proofs.Common.{◌≡◌, ℕ, zero, suc, ◌<◌, ◌≤◌, List, [], ◌∷◌, ◌++◌, length, None, Some, refl, sym, ◌∙◌, arith}
-use Rattle.c_prog.specs.declared.token.Token.{Token}
+use Rattle.c_base.specs.declared.token.Token.{Token}
 use Rattle.c_parse_expr.specs.Rules.{literals}
 use Rattle.c_parse_expr.specs.Tokens.{literal_at}
 

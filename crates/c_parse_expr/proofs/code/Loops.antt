@@ -1,6 +1,6 @@
 -- Loops that read one tree after the other.
 use Rattle.std.proofs.Common.{◌≡◌, ℕ, zero, suc, max, ◌<◌, ◌≤◌, List, [], ◌∷◌, ◌++◌, length, map, Option, None, Some, refl, sym, ap, ◌∙◌, subst, arith}
-use Rattle.c_prog.specs.declared.token.Token.{Token}
+use Rattle.c_base.specs.declared.token.Token.{Token}
 use Rattle.c_tree.specs.Nesting.{nest, nest_all}
 use Rattle.c_tree.specs.Trees.{Tree}
 use Rattle.c_tree.specs.Views.{listed}

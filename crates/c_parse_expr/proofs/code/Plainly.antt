@@ -1,8 +1,8 @@
 -- One round of each loop over parts without trees, and the words of an attribute.
 use Rattle.std.proofs.Common.{◌≡◌, ℕ, zero, suc, ◌≤◌, ◌+◌, List, [], ◌∷◌, ◌++◌, length, Option, None, Some, refl, sym, ap, ◌∙◌, append_assoc, arith}
-use Rattle.c_prog.specs.declared.token.Keyword.{Keyword}
-use Rattle.c_prog.specs.declared.token.Token.{Token}
-use Rattle.c_prog.specs.declared.token.Word.{Word}
+use Rattle.c_base.specs.declared.token.Keyword.{Keyword}
+use Rattle.c_base.specs.declared.token.Token.{Token}
+use Rattle.c_base.specs.declared.token.Word.{Word}
 use Rattle.c_tree.specs.declared.tree.Attribute.{Attribute as CodeAttribute}
 use Rattle.c_tree.specs.declared.tree.Pointer.{Pointer}
 use Rattle.c_tree.specs.declared.tree.Qualifier.{Qualifier}

@@ -1,6 +1,6 @@
 -- Loops that read suffixes, each of which is a node above the next.
 use Rattle.std.proofs.Common.{◌≡◌, ℕ, suc, max, ◌+◌, List, [], ◌∷◌, ◌++◌, length, map, Option, None, Some, refl, sym, ap, ◌∙◌, subst, arith}
-use Rattle.c_prog.specs.declared.token.Token.{Token}
+use Rattle.c_base.specs.declared.token.Token.{Token}
 use Rattle.c_tree.specs.Nesting.{nest, nest_all, nest_below}
 use Rattle.c_tree.specs.Trees.{Tree}
 use Rattle.c_tree.specs.Views.{listed}

@@ -1,7 +1,7 @@
 -- A declarator from its parts.
 use Rattle.std.proofs.Common.{◌≡◌, ℕ, suc, ◌<◌, nat_lt, true, List, [], length, map, Some, refl, sym, ap, ◌∙◌, subst, rules}
-use Rattle.c_prog.specs.declared.number.Span.{Span}
-use Rattle.c_prog.specs.declared.token.Token.{Token}
+use Rattle.c_base.specs.declared.number.Span.{Span}
+use Rattle.c_base.specs.declared.token.Token.{Token}
 use Rattle.c_tree.specs.declared.tree.Core.{Core}
 use Rattle.c_tree.specs.declared.tree.Declarator.{Declarator}
 use Rattle.c_tree.specs.declared.tree.Pointer.{Pointer}

@@ -1,11 +1,11 @@
 -- How an expression begins: with a word that begins one and that is no type, at its place.
 use Rattle.std.proofs.Common.{◌≡◌, ℕ, ◌≤◌, true, false, List, [], ◌∷◌, ◌++◌, Some, refl, sym, ◌∙◌, ap, arith, IsTrue}
-use Rattle.c_prog.specs.declared.number.Span.{Span}
-use Rattle.c_prog.specs.declared.token.Keyword.TheVariants as key
-use Rattle.c_prog.specs.declared.token.Punctuator.TheVariants as mark
-use Rattle.c_prog.specs.declared.token.Token.{Token}
-use Rattle.c_prog.specs.declared.token.Word.{Word}
-use Rattle.c_prog.specs.declared.token.Word.TheVariants as word
+use Rattle.c_base.specs.declared.number.Span.{Span}
+use Rattle.c_base.specs.declared.token.Keyword.TheVariants as key
+use Rattle.c_base.specs.declared.token.Punctuator.TheVariants as mark
+use Rattle.c_base.specs.declared.token.Token.{Token}
+use Rattle.c_base.specs.declared.token.Word.{Word}
+use Rattle.c_base.specs.declared.token.Word.TheVariants as word
 use Rattle.c_tree.specs.declared.operator.PrefixOperator.{PrefixOperator}
 use Rattle.c_tree.specs.declared.operator.PrefixOperator.TheVariants as prefix
 use Rattle.c_tree.specs.declared.operator.TypeOperator.{TypeOperator}

@@ -1,6 +1,6 @@
 -- A loop that collects what a step finds, again and again, while it may take a number of rounds: the form of all the loops of the rules.
 use Rattle.std.proofs.Common.{◌≡◌, ℕ, zero, suc, ◌<◌, ◌≤◌, List, [], ◌∷◌, ◌++◌, length, Option, None, Some, refl, sym, ◌∙◌, ap, subst, arith, ◌⊎◌, inl, inr, append_assoc, append-nil}
-use Rattle.c_prog.specs.declared.token.Token.{Token}
+use Rattle.c_base.specs.declared.token.Token.{Token}
 
 module _ {S A : Type 0} (step : S → List Token → Option (A × List Token)) (next : S → A → S) where
   abbrev pub collect_with : (List A → S → List Token → List A × List Token) → List A → S → List Token → Option (A × List Token) → List A × List Token

@@ -3,9 +3,9 @@ use Rattle.std.proofs.Common.{◌≡◌, ℕ, zero, suc, ◌<◌, ◌≤◌, inl
 use Rattle.std.specs.Prelude.{nat_le}
 use Rattle.std.proofs.lemmas.Bool.{cond_both, cond-true, cond-false, le-leb, lt-leb, leb-true, leb-false, and_from}
 use Rattle.std.proofs.lemmas.Option.{none-some}
-use Rattle.c_prog.specs.declared.number.Span.{Span}
-use Rattle.c_prog.specs.declared.token.Punctuator.TheVariants as mark
-use Rattle.c_prog.specs.declared.token.Token.{Token}
+use Rattle.c_base.specs.declared.number.Span.{Span}
+use Rattle.c_base.specs.declared.token.Punctuator.TheVariants as mark
+use Rattle.c_base.specs.declared.token.Token.{Token}
 use Rattle.c_tree.specs.declared.operator.AssignmentOperator.{AssignmentOperator}
 use Rattle.c_tree.specs.Nesting.{nest}
 use Rattle.c_tree.specs.Spelling.{sign, mark_of_assignment, pieces, pieces_of_all, pieces_with_commas}

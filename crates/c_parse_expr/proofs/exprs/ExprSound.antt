@@ -3,8 +3,8 @@ use Rattle.std.proofs.Common.{◌≡◌, ℕ, suc, ◌≤◌, max, Bool, true, f
 use Rattle.std.specs.Prelude.{nat_le}
 use Rattle.std.proofs.lemmas.Bool.{cond_both, leb-true, and_parts}
 use Rattle.std.proofs.lemmas.Option.{none-some}
-use Rattle.c_prog.specs.declared.token.Punctuator.TheVariants as mark
-use Rattle.c_prog.specs.declared.token.Token.{Token}
+use Rattle.c_base.specs.declared.token.Punctuator.TheVariants as mark
+use Rattle.c_base.specs.declared.token.Token.{Token}
 use Rattle.c_tree.specs.Nesting.{nest}
 use Rattle.c_tree.specs.Spelling.{sign, mark_of_assignment, pieces, pieces_of_all, pieces_with_commas}
 use Rattle.c_tree.specs.Trees.{Tree, Conditional, Assignment, Operand, Trees, Next}

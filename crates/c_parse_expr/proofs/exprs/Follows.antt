@@ -1,10 +1,10 @@
 -- What goes on with an expression of a level.
 use Rattle.std.proofs.Common.{◌≡◌, ℕ, suc, ◌<◌, ◌≤◌, ◌⊎◌, inl, inr, List, [], ◌∷◌, Option, None, Some, refl, arith, IsTrue}
 use Rattle.std.proofs.lemmas.Bool.{ltb-true, lt-ltb}
-use Rattle.c_prog.specs.declared.token.Punctuator.TheVariants as mark
-use Rattle.c_prog.specs.declared.token.Token.{Token}
-use Rattle.c_prog.specs.declared.token.Word.{Word}
-use Rattle.c_prog.specs.declared.token.Word.TheVariants as word
+use Rattle.c_base.specs.declared.token.Punctuator.TheVariants as mark
+use Rattle.c_base.specs.declared.token.Token.{Token}
+use Rattle.c_base.specs.declared.token.Word.{Word}
+use Rattle.c_base.specs.declared.token.Word.TheVariants as word
 use Rattle.c_tree.specs.declared.operator.AssignmentOperator.{AssignmentOperator}
 use Rattle.c_tree.specs.declared.operator.AssignmentOperator.TheVariants as assignment
 use Rattle.c_tree.specs.declared.operator.BinaryOperator.{BinaryOperator}

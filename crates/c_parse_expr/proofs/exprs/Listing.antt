@@ -1,6 +1,6 @@
 -- Trees side by side: what a loop collects is a list of them, and the trees of a list are what a loop meets.
 use Rattle.std.proofs.Common.{◌≡◌, ℕ, ◌≤◌, List, [], ◌∷◌, ◌++◌, refl, sym, ap, subst, arith}
-use Rattle.c_prog.specs.declared.token.Token.{Token}
+use Rattle.c_base.specs.declared.token.Token.{Token}
 use Rattle.c_tree.specs.Nesting.{nest, nest_all}
 use Rattle.c_tree.specs.Spelling.{Piece}
 use Rattle.c_tree.specs.Trees.{Tree, Trees, Nil, Next}

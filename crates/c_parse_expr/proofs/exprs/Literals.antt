@@ -1,7 +1,7 @@
 -- Neighbouring string literals.
 use Rattle.std.proofs.Common.{◌≡◌, ℕ, zero, suc, ◌<◌, ◌⊎◌, inl, List, [], ◌∷◌, ◌++◌, length, Option, None, Some, refl, sym, ap, subst, arith}
-use Rattle.c_prog.specs.declared.token.Token.{Token}
-use Rattle.c_prog.specs.declared.token.Word.TheVariants as word
+use Rattle.c_base.specs.declared.token.Token.{Token}
+use Rattle.c_base.specs.declared.token.Word.TheVariants as word
 use Rattle.c_tree.specs.Spelling.{plain, pieces_of_literals}
 use Rattle.c_parse_expr.specs.Found.{Fronts}
 use Rattle.c_parse_expr.specs.Tokens.{literal_at}

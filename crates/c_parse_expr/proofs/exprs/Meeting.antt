@@ -1,6 +1,6 @@
 -- A tree that is found, or a longer one; and a tree that a stage of the rule of expressions leaves as it is, or extends where more follows.
 use Rattle.std.proofs.Common.{◌≡◌, ℕ, ◌<◌, ◌≤◌, ◌⊎◌, inl, inr, List, [], ◌∷◌, length, Option, None, Some, refl, ◌∙◌, ap, subst, arith}
-use Rattle.c_prog.specs.declared.token.Token.{Token}
+use Rattle.c_base.specs.declared.token.Token.{Token}
 use Rattle.c_tree.specs.Trees.{Tree, Trees, Nil, Next}
 use Rattle.c_tree.specs.Views.{listed}
 use Rattle.c_tree.specs.WellFormed.{AreThere}

@@ -1,10 +1,10 @@
 -- What is found behind an operand, and what stands behind commas and operators, is there.
 use Rattle.std.proofs.Common.{◌≡◌, ℕ, suc, ◌≤◌, true, false, List, [], ◌∷◌, length, Option, None, Some, refl, sym, subst, arith}
 use Rattle.std.proofs.lemmas.Option.{none-some}
-use Rattle.c_prog.specs.declared.token.Punctuator.TheVariants as mark
-use Rattle.c_prog.specs.declared.token.Token.{Token}
-use Rattle.c_prog.specs.declared.token.Word.{Word}
-use Rattle.c_prog.specs.declared.token.Word.TheVariants as word
+use Rattle.c_base.specs.declared.token.Punctuator.TheVariants as mark
+use Rattle.c_base.specs.declared.token.Token.{Token}
+use Rattle.c_base.specs.declared.token.Word.{Word}
+use Rattle.c_base.specs.declared.token.Word.TheVariants as word
 use Rattle.c_tree.specs.Spelling.{sign, pieces, pieces_of_all, pieces_with_commas}
 use Rattle.c_tree.specs.Trees.{Tree, Index, Call, Dot, Arrow, Increment, Decrement, Operand, Next}
 use Rattle.c_tree.specs.Views.{listed}

@@ -3,12 +3,12 @@ use Rattle.std.proofs.Common.{◌≡◌, ℕ, suc, ◌<◌, ◌≤◌, ◌⊎◌
 use Rattle.std.specs.Prelude.{nat_le}
 use Rattle.std.proofs.lemmas.Bool.{cond_both, cond-true, cond-false, le-leb}
 use Rattle.std.proofs.lemmas.Option.{same_Some}
-use Rattle.c_prog.specs.declared.number.Span.{Span}
-use Rattle.c_prog.specs.declared.token.IntegerConstant.{IntegerConstant}
-use Rattle.c_prog.specs.declared.token.Keyword.TheVariants as key
-use Rattle.c_prog.specs.declared.token.Punctuator.TheVariants as mark
-use Rattle.c_prog.specs.declared.token.Token.{Token}
-use Rattle.c_prog.specs.declared.token.Word.TheVariants as word
+use Rattle.c_base.specs.declared.number.Span.{Span}
+use Rattle.c_base.specs.declared.token.IntegerConstant.{IntegerConstant}
+use Rattle.c_base.specs.declared.token.Keyword.TheVariants as key
+use Rattle.c_base.specs.declared.token.Punctuator.TheVariants as mark
+use Rattle.c_base.specs.declared.token.Token.{Token}
+use Rattle.c_base.specs.declared.token.Word.TheVariants as word
 use Rattle.c_tree.specs.Nesting.{nest}
 use Rattle.c_tree.specs.Spelling.{Piece, plain, sign, pieces, pieces_of_all}
 use Rattle.c_tree.specs.Trees.{Tree, Name, Integer, Floating, Character, Text, Parenthesised, Postfix, Prefix, OfType, Offsetof, Cast, Run, Conditional, Assignment, Comma, Operand, Trees, Nil, Next}

@@ -1,7 +1,7 @@
 -- A reader that is sound and reaches each expression finds the longest one and no other; and nothing nests no deeper than 0.
 use Rattle.std.proofs.Common.{◌≡◌, ℕ, zero, ◌≤◌, inl, inr, List, length, Option, None, Some, sym, ap, subst, arith}
 use Rattle.std.proofs.lemmas.Option.{none-some}
-use Rattle.c_prog.specs.declared.token.Token.{Token}
+use Rattle.c_base.specs.declared.token.Token.{Token}
 use Rattle.c_tree.specs.Trees.{Tree}
 use Rattle.c_tree.specs.WellFormed.{Names}
 use Rattle.c_parse_expr.specs.Found.{IsLongest, HasNone}

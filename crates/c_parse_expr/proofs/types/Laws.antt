@@ -1,10 +1,10 @@
 -- What the readers of specifiers and of declarators promise: all that they find is there, and what is there they find, where what
 -- follows does not go on with it.
 use Rattle.std.specs.Prelude.{ℕ, ◌≤◌, ◌<◌, ◌≡◌, Bool, false, List, Some}
-use Rattle.c_prog.specs.declared.token.Keyword.TheVariants as key
-use Rattle.c_prog.specs.declared.token.Punctuator.TheVariants as mark
-use Rattle.c_prog.specs.declared.token.Token.{Token}
-use Rattle.c_prog.specs.declared.token.Word.{Word}
+use Rattle.c_base.specs.declared.token.Keyword.TheVariants as key
+use Rattle.c_base.specs.declared.token.Punctuator.TheVariants as mark
+use Rattle.c_base.specs.declared.token.Token.{Token}
+use Rattle.c_base.specs.declared.token.Word.{Word}
 use Rattle.c_tree.specs.Nesting.{nest}
 use Rattle.c_tree.specs.Spelling.{pieces}
 use Rattle.c_tree.specs.Trees.{Tree, CompositeTag, Composite, EnumTag}

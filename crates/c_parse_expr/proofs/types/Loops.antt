@@ -1,6 +1,6 @@
 -- Loops that read one thing after another: what they find, and where they stop.
 use Rattle.std.proofs.Common.{◌≡◌, ℕ, zero, suc, ◌<◌, List, [], ◌∷◌, ◌++◌, length, Option, None, Some, refl, sym, ◌∙◌, ap, arith, append_assoc, append-nil}
-use Rattle.c_prog.specs.declared.token.Token.{Token}
+use Rattle.c_base.specs.declared.token.Token.{Token}
 
 module _ (S A : Type 0) (read : S → List Token → Option (A × List Token)) (step : S → A → S) where
   abbrev pub loop_with : (List A → S → List Token → List A × List Token) → List A → S → List Token → Option (A × List Token) → List A × List Token

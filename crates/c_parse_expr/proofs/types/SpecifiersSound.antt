@@ -1,13 +1,13 @@
 -- What is read as a specifier is spelled there, and is one.
 use Rattle.std.proofs.Common.{◌≡◌, ℕ, suc, Bool, true, cond, ◌&&◌, List, [], ◌∷◌, length, Option, None, Some, refl}
 use Rattle.std.proofs.lemmas.Option.{cond_some, none-some, same_Some}
-use Rattle.c_prog.specs.declared.number.Span.{Span}
-use Rattle.c_prog.specs.declared.token.Keyword.{Keyword}
-use Rattle.c_prog.specs.declared.token.Keyword.TheVariants as key
-use Rattle.c_prog.specs.declared.token.Punctuator.TheVariants as mark
-use Rattle.c_prog.specs.declared.token.Token.{Token}
-use Rattle.c_prog.specs.declared.token.Word.{Word}
-use Rattle.c_prog.specs.declared.token.Word.TheVariants as word
+use Rattle.c_base.specs.declared.number.Span.{Span}
+use Rattle.c_base.specs.declared.token.Keyword.{Keyword}
+use Rattle.c_base.specs.declared.token.Keyword.TheVariants as key
+use Rattle.c_base.specs.declared.token.Punctuator.TheVariants as mark
+use Rattle.c_base.specs.declared.token.Token.{Token}
+use Rattle.c_base.specs.declared.token.Word.{Word}
+use Rattle.c_base.specs.declared.token.Word.TheVariants as word
 use Rattle.c_tree.specs.declared.tree.Attribute.{Attribute as CodeAttribute}
 use Rattle.c_tree.specs.declared.tree.CompositeSort.{CompositeSort}
 use Rattle.c_tree.specs.declared.tree.CompositeSort.TheVariants as sort

@@ -1,7 +1,7 @@
 -- The laws of the readers of what type names reach, all of a depth, and how they follow from those of the depth below.
 use Rattle.std.proofs.Common.{ℕ, suc, ◌≤◌, List, arith}
 use Rattle.std.proofs.lemmas.Option.{none-some}
-use Rattle.c_prog.specs.declared.token.Token.{Token}
+use Rattle.c_base.specs.declared.token.Token.{Token}
 use Rattle.c_tree.specs.Nesting.{nest}
 use Rattle.c_tree.specs.Trees.{Tree, TypeName, Declarator}
 use Rattle.c_tree.specs.WellFormed.{Names, Before, Purpose, ForType, ForParameter, ForName}

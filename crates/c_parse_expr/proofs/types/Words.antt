@@ -1,11 +1,11 @@
 -- First words of pieces and of tokens, and readers that find nothing there.
 use Rattle.std.proofs.Common.{◌≡◌, ℕ, ◌<◌, Bool, true, false, List, [], ◌∷◌, ◌++◌, length, Option, None, Some, refl, ◌∙◌, ap}
 use Rattle.std.proofs.lemmas.Option.{none-some}
-use Rattle.c_prog.specs.declared.number.Span.{Span}
-use Rattle.c_prog.specs.declared.token.Punctuator.{Punctuator}
-use Rattle.c_prog.specs.declared.token.Token.{Token}
-use Rattle.c_prog.specs.declared.token.Word.{Word}
-use Rattle.c_prog.specs.declared.token.Word.TheVariants as word
+use Rattle.c_base.specs.declared.number.Span.{Span}
+use Rattle.c_base.specs.declared.token.Punctuator.{Punctuator}
+use Rattle.c_base.specs.declared.token.Token.{Token}
+use Rattle.c_base.specs.declared.token.Word.{Word}
+use Rattle.c_base.specs.declared.token.Word.TheVariants as word
 use Rattle.c_tree.specs.Spelling.{Piece, at, plain, sign}
 use Rattle.c_parse_expr.specs.Declaring.{starts}
 use Rattle.c_parse_expr.specs.Found.{IsPiece, Fronts}

@@ -1,6 +1,6 @@
 use Rattle.std.proofs.Common.{◌∙◌, sym, ap, cond}
 use Rattle.std.specs.FinSet.{union}
-use Rattle.c_prog.specs.Values.{nowhere}
+use Rattle.c_memory.specs.Values.{nowhere}
 use Rattle.c_mean.specs.Views.{bases_of}
 use Rattle.c_mean.proofs.Cells.{bases-append}
 use Rattle.c_mean.proofs.machine.bases_after.Goals as goal

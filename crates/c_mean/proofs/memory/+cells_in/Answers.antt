@@ -1,7 +1,7 @@
 use Rattle.std.proofs.Common.{◌≡◌, ◌∙◌, sym, ap, subst, Option, Some, List, ◌==◌, map, replicate, IfOk, ◌*◌}
-use Rattle.c_prog.specs.Values.{Cell, Uninit, wither}
+use Rattle.c_memory.specs.Values.{Cell, Uninit, wither}
 use Rattle.std.specs.List.{list_any}
-use Rattle.c_prog.specs.Memories.{withered}
+use Rattle.c_memory.specs.Memories.{withered}
 use Rattle.c_mean.specs.Views.{cell_of, cells_option_of, layout_of}
 use Rattle.c_mean.proofs.Histories.{born-here, born-others, died-here, died-others}
 use Rattle.c_mean.proofs.memory.+cells_in.Goals as goal

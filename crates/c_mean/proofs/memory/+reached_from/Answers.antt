@@ -1,5 +1,5 @@
 use Rattle.std.proofs.Common.{arith, ◌≡◌, ◌∙◌, sym, subst, ℕ, Option, IfOk}
-use Rattle.c_prog.specs.Memories as memories
+use Rattle.c_memory.specs.Memories as memories
 use Rattle.c_mean.specs.Views.{value_of, layout_of, memory_of}
 use Rattle.c_mean.proofs.Histories.{find-next}
 use Rattle.c_mean.proofs.memory.+reached_from.Goals as goal

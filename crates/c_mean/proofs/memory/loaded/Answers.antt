@@ -1,6 +1,6 @@
 use Rattle.std.proofs.Common.{◌≡◌, ◌∙◌, sym, subst, ap, Result, IfOk, drop}
-use Rattle.c_prog.specs.declared.kind.Kind.{Kind}
-use Rattle.c_prog.specs.Values.{Value}
+use Rattle.c_base.specs.declared.kind.Kind.{Kind}
+use Rattle.c_memory.specs.Values.{Value}
 use Rattle.c_mean.specs.Views.{value_of, value_result_of, layout_of, memory_of}
 use Rattle.c_mean.proofs.Histories.{loaded-is}
 use Rattle.c_mean.proofs.memory.loaded.Goals as goal

@@ -1,5 +1,5 @@
 use Rattle.std.proofs.Common.{arith, rules, ◌≡◌, ◌*◌, ◌∙◌, ap, replicate}
-use Rattle.c_prog.specs.Values as values
+use Rattle.c_memory.specs.Values as values
 use Rattle.c_mean.proofs.Cells.{unwritten-next}
 use Rattle.c_mean.proofs.memory.unwritten.Goals as goal
 

@@ -1,5 +1,5 @@
 use Rattle.std.proofs.Common.{◌∙◌, sym}
-use Rattle.c_prog.specs.Values as values
+use Rattle.c_memory.specs.Values as values
 use Rattle.c_mean.proofs.Cells.{any-front, any-behind}
 use Rattle.c_mean.proofs.value.+is_any_dead.Goals as goal
 

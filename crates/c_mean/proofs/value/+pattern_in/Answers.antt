@@ -1,6 +1,6 @@
 use Rattle.std.proofs.Common.{◌∙◌, sym, ap}
-use Rattle.c_prog.specs.Integers as integers
-use Rattle.c_prog.specs.Values as values
+use Rattle.c_base.specs.Integers as integers
+use Rattle.c_memory.specs.Values as values
 use Rattle.c_mean.specs.Views.{cell_of}
 use Rattle.std.specs.Prelude.{map}
 use Rattle.c_mean.proofs.Cells.{pattern-empty, pattern-split, cells-none}

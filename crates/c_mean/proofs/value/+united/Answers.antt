@@ -1,6 +1,6 @@
 use Rattle.std.proofs.Common.{◌∙◌, sym, ap}
 use Rattle.std.specs.Prelude.{map}
-use Rattle.c_prog.specs.Values as values
+use Rattle.c_memory.specs.Values as values
 use Rattle.c_mean.specs.Views.{cell_of, bases_of}
 use Rattle.c_mean.proofs.Cells.{united-empty, united-split, cells-none}
 use Rattle.c_mean.proofs.value.+united.Goals as goal

@@ -1,6 +1,6 @@
 use Rattle.std.proofs.Common.{◌≡◌, ◌++◌, ◌-◌, map}
-use Rattle.c_prog.specs.Integers.{bits_from}
-use Rattle.c_prog.specs.Values.{cells_from}
+use Rattle.c_base.specs.Integers.{bits_from}
+use Rattle.c_memory.specs.Values.{cells_from}
 use Rattle.c_mean.specs.Views.{cell_of, bases_of}
 use Rattle.c_mean.proofs.value.cells_of.Given as goal
 

@@ -1,5 +1,5 @@
 use Rattle.std.proofs.Common.{◌≡◌, map, take}
-use Rattle.c_prog.specs.Values as values
+use Rattle.c_memory.specs.Values as values
 use Rattle.c_mean.specs.Views.{cell_of}
 use Rattle.c_mean.proofs.value.withered.Given as goal
 

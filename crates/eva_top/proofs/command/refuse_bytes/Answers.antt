@@ -1,5 +1,5 @@
 use Rattle.std.proofs.Common.{refl}
-use Rattle.eva_top.specs.declared.status.LexSort.TheVariants.{BadByte, OpenComment, OpenString, BadNumber}
+use Rattle.c_base.specs.declared.token.LexSort.TheVariants.{BadByte, OpenComment, OpenString, BadNumber}
 use Rattle.eva_top.specs.declared.status.Refusal.TheVariants.{Lex, Limit}
 use Rattle.eva_top.specs.declared.status.Status.TheVariants.{Refused}
 use Rattle.eva_top.proofs.Answering.{name_noted, memory_noted}

@@ -1,5 +1,5 @@
 use Rattle.std.proofs.Common.{◌≡◌, [], drop, refl, subst, ◌∙◌, drop_of_length-le}
-use Rattle.c_prog.specs.declared.tree.IntKind.TheVariants.{Int}
+use Rattle.c_base.specs.declared.integer.IntKind.TheVariants.{Int}
 use Rattle.c_prog.specs.Syntax.{Binary}
 use Rattle.first_program.specs.SourceViews.{sum_tree}
 use Rattle.first_program.specs.Meaning.{sign_op, sum_expr}

@@ -1,5 +1,5 @@
 use Rattle.std.proofs.Common.{rules, ◌≡◌, ◌↔◌, IsTrue, Err}
-use Rattle.c_prog.specs.KindSets.{allowed}
+use Rattle.c_base.specs.KindSets.{allowed}
 use Rattle.ival_arith.specs.Answers.{binary_value, binary_kinds}
 use Rattle.ival_arith.specs.Promises.{Gives}
 use Rattle.ival_arith.proofs.answers.binary.Goals as goal

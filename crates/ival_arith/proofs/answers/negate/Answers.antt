@@ -1,5 +1,5 @@
 use Rattle.std.proofs.Common.{rules, ◌≡◌, ◌↔◌, IsTrue, Err}
-use Rattle.c_prog.specs.KindSets.{allowed}
+use Rattle.c_base.specs.KindSets.{allowed}
 use Rattle.ival_arith.specs.Answers.{negate_value, negate_kinds}
 use Rattle.ival_arith.specs.Promises.{GivesNegated}
 use Rattle.ival_arith.proofs.answers.negate.Goals as goal

@@ -1,7 +1,7 @@
 use Rattle.std.proofs.Common.{sym, ap, ◌∙◌}
 use Rattle.ival_arith.specs.Values.{added, long_value}
 use Rattle.ival_arith.proofs.TableCodes.{long_add, long_sub, long_mul, long_div, long_rem, negated_sums, long_rest, rest_of_five, rest_of_six}
-use Rattle.c_prog.specs.declared.tree.BinOp.TheVariants.{And, Or, Xor, Shl, Shr, Lt, Le, Gt, Ge, Eq, Ne}
+use Rattle.c_base.specs.declared.operators.BinOp.TheVariants.{And, Or, Xor, Shl, Shr, Lt, Le, Gt, Ge, Eq, Ne}
 use Rattle.ival_arith.proofs.arithmetic.long_value.Goals as goal
 
 pub returns-in-Add : goal.returns-in-Add

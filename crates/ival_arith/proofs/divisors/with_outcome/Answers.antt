@@ -1,7 +1,7 @@
 use Rattle.std.proofs.Common.{◌≡◌, [], FitsSigned, ap, ◌∙◌}
 use Rattle.std.specs.Int.{w128}
 use Rattle.std.proofs.lemmas.Int.{to_z-of_z}
-use Rattle.c_prog.specs.Operators.{operated}
+use Rattle.c_base.specs.Operators.{operated}
 use Rattle.ival_core.specs.declared.value.Ival.{Ival}
 use Rattle.ival_core.specs.Joined.{with_numbers}
 use Rattle.ival_arith.specs.Values.{kept, going_on}

@@ -1,7 +1,7 @@
 use Rattle.std.proofs.Common.{◌-◌, ◌/◌, ◌+◌, None, Some, FitsSigned, sym, subst, ap, ◌∙◌, rules, arith}
 use Rattle.std.specs.Int.{w128}
 use Rattle.std.proofs.lemmas.Int.{to_z-of_z}
-use Rattle.c_prog.specs.Integers.{FitsBits}
+use Rattle.c_base.specs.Integers.{FitsBits}
 use Rattle.ival_core.specs.declared.value.Ival.{Ival}
 use Rattle.ival_core.specs.Sets.{IsNumber}
 use Rattle.ival_core.proofs.Runs.{number_fits, Steps-number}

@@ -1,7 +1,7 @@
 use Rattle.std.proofs.Common.{map, slice_index_or, pos, FitsSigned, ap, ◌∙◌, rules}
 use Rattle.std.specs.Int.{w128}
 use Rattle.std.proofs.lemmas.Int.{to_z-of_z}
-use Rattle.c_prog.specs.Operators.{floor}
+use Rattle.c_base.specs.Operators.{floor}
 use Rattle.ival_core.specs.Joined.{with_number}
 use Rattle.ival_core.proofs.Ends.{Among-at}
 use Rattle.ival_core.proofs.Insertion.{AllNumbers-among}

@@ -1,5 +1,5 @@
 use Rattle.std.proofs.Common.{◌≡◌, drop, map}
-use Rattle.c_prog.specs.Operators.{floor}
+use Rattle.c_base.specs.Operators.{floor}
 use Rattle.ival_core.specs.Joined.{with_numbers}
 use Rattle.ival_arith.specs.Pieces.{gathered}
 use Rattle.ival_arith.proofs.floors.few_floored.Given as goal

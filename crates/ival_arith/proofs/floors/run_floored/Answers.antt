@@ -3,7 +3,7 @@ use Rattle.ival_arith.proofs.floors.run_floored.Goals as goal
 use Rattle.std.proofs.Common.{FitsSigned, subst, sym}
 use Rattle.std.specs.Int.{w128}
 use Rattle.std.proofs.lemmas.Int.{to_z-of_z}
-use Rattle.c_prog.specs.Operators.{floor}
+use Rattle.c_base.specs.Operators.{floor}
 use Rattle.ival_core.proofs.Runs.{Steps-low}
 use Rattle.ival_arith.proofs.Flooring.{floor_order}
 

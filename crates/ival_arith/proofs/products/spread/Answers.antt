@@ -1,7 +1,7 @@
 use Rattle.std.proofs.Common.{◌≡◌, pos, to_z, FitsSigned, refl, ap, ◌∙◌, arith}
 use Rattle.std.specs.Int.{w128, int_min, int_max}
 use Rattle.std.proofs.lemmas.Int.{ints, clamps, to_z-of_z, to_z_pos}
-use Rattle.c_prog.specs.Integers.{least_of, greatest_of}
+use Rattle.c_base.specs.Integers.{least_of, greatest_of}
 use Rattle.ival_arith.proofs.Codes.{same_run}
 use Rattle.ival_arith.proofs.ProductCodes.{spread_is}
 use Rattle.ival_arith.proofs.products.spread.Goals as goal

@@ -1,7 +1,7 @@
 use Rattle.std.proofs.Common.{◌≡◌, ap, ◌∙◌, subst, FitsSigned, rules}
 use Rattle.std.specs.Int.{w128}
 use Rattle.std.proofs.lemmas.Int.{to_z-of_z}
-use Rattle.c_prog.specs.declared.tree.BinOp.TheVariants.{Mul}
+use Rattle.c_base.specs.declared.operators.BinOp.TheVariants.{Mul}
 use Rattle.ival_core.specs.declared.value.Shape.{Shape}
 use Rattle.ival_core.specs.declared.value.Shape.TheVariants.{Few}
 use Rattle.ival_core.specs.Sets.{Has}

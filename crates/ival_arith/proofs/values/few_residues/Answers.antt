@@ -1,7 +1,7 @@
 use Rattle.std.proofs.Common.{◌≡◌, map, slice_index_or, pos, to_z, FitsSigned, ap, ◌∙◌, arith, rules}
 use Rattle.std.specs.Int.{w128}
 use Rattle.std.proofs.lemmas.Int.{to_z-of_z, to_z_pos}
-use Rattle.c_prog.specs.Integers.{residue}
+use Rattle.c_base.specs.Integers.{residue}
 use Rattle.ival_core.specs.Joined.{with_number}
 use Rattle.ival_arith.specs.Pieces.{gathered}
 use Rattle.ival_arith.proofs.Codes.{step_with, with_end, gathered_start}

@@ -1,5 +1,5 @@
 use Rattle.std.proofs.Common.{◌≡◌, pos, drop, map}
-use Rattle.c_prog.specs.Integers.{residue}
+use Rattle.c_base.specs.Integers.{residue}
 use Rattle.ival_core.specs.Joined.{with_numbers}
 use Rattle.ival_arith.specs.Pieces.{gathered}
 use Rattle.ival_arith.proofs.values.few_residues.Given as goal

@@ -1,6 +1,6 @@
 use Rattle.std.proofs.Common.{◌≡◌, ◌/◌, ◌%◌, ap, ◌∙◌}
 use Rattle.std.proofs.lemmas.Int.{to_z-of_z}
-use Rattle.c_prog.specs.Integers.{residue}
+use Rattle.c_base.specs.Integers.{residue}
 use Rattle.ival_core.proofs.Runs.{number_fits}
 use Rattle.ival_arith.specs.Pieces.{cycle}
 use Rattle.ival_core.proofs.RunShapes.{steps_to}

@@ -1,5 +1,5 @@
 use Rattle.std.proofs.Common.{◌≡◌, subst, sym, rules}
-use Rattle.c_prog.specs.Integers.{is_signed, width_of}
+use Rattle.c_base.specs.Integers.{is_signed, width_of}
 use Rattle.ival_core.specs.Sets.{Has}
 use Rattle.ival_arith.proofs.Answering.{width_is}
 use Rattle.ival_arith.proofs.Fits.{Fits}

@@ -1,7 +1,7 @@
 use Rattle.std.proofs.Common.{◌≡◌, pos, ◌^◌, ◌+ℤ◌, ◌-ℤ◌, ◌<ℤ◌, FitsSigned, ap, ◌∙◌, subst, sym, rules}
 use Rattle.std.specs.Int.{w128}
 use Rattle.std.proofs.lemmas.Int.{to_z-of_z}
-use Rattle.c_prog.specs.Integers.{least_of, greatest_of}
+use Rattle.c_base.specs.Integers.{least_of, greatest_of}
 use Rattle.ival_core.specs.Sets.{IsNumber}
 use Rattle.ival_core.proofs.Runs.{number_fits}
 use Rattle.ival_bits.specs.Masks.{turned}

@@ -1,6 +1,6 @@
 use Rattle.std.proofs.Common.{◌≡◌, ◌↔◌, IsTrue, Err, subst, sym, rules}
-use Rattle.c_prog.specs.Integers.{is_signed, width_of}
-use Rattle.c_prog.specs.KindSets.{allowed}
+use Rattle.c_base.specs.Integers.{is_signed, width_of}
+use Rattle.c_base.specs.KindSets.{allowed}
 use Rattle.ival_arith.specs.Promises.{Gives}
 use Rattle.ival_arith.proofs.Answering.{width_is}
 use Rattle.ival_arith.proofs.Fits.{Fits}

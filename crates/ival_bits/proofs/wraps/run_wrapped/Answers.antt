@@ -1,13 +1,13 @@
 use Rattle.std.proofs.Common.{rules, ◌≡◌, ◌^◌, pos, ◌+ℤ◌, FitsSigned}
-use Rattle.c_prog.specs.Integers.{greatest_of}
+use Rattle.c_base.specs.Integers.{greatest_of}
 use Rattle.ival_core.specs.Sets.{IsNumber, apart}
 use Rattle.ival_bits.specs.Wraps.{resigned}
 use Rattle.ival_bits.proofs.wraps.run_wrapped.Goals as goal
 use Rattle.std.proofs.Common.{FitsSigned, subst, sym, ap, refl, ◌∙◌, ◌^◌}
 use Rattle.std.specs.Int.{w128}
 use Rattle.std.proofs.lemmas.Int.{to_z-of_z}
-use Rattle.c_prog.specs.Operators.{reduced}
-use Rattle.c_prog.specs.Integers.{greatest_of}
+use Rattle.c_base.specs.Operators.{reduced}
+use Rattle.c_base.specs.Integers.{greatest_of}
 use Rattle.ival_core.specs.Sets.{apart, IsNumber}
 use Rattle.ival_core.proofs.Orders.{le_true}
 use Rattle.ival_arith.specs.Values.{residues}

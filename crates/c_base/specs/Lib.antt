@@ -1,0 +1,4 @@
+pub mod Integers
+pub mod Operators
+pub mod KindSets
+pub mod Wide

@@ -1,0 +1,2 @@
+pub mod CellBits
+pub mod IntMemory
