@@ -3,7 +3,6 @@ use Rattle.std.specs.Prelude.{ℕ, ◌^◌, ◌/◌, Bool, true, false, cond, no
 use Rattle.c_base.specs.declared.integer.IntKind.{IntKind}
 use Rattle.c_base.specs.declared.integer.IntKind.TheVariants.{Bool as bool_kind}
 use Rattle.c_base.specs.declared.integer.Machine.{Machine}
-use Rattle.c_base.specs.declared.integer.Machine.TheVariants.{Lp64}
 use Rattle.c_base.specs.declared.operators.BinOp.{BinOp}
 use Rattle.c_base.specs.declared.operators.BinOp.TheVariants.{Add, Sub, Mul, Div, Rem, And, Or, Xor, Shl, Shr, Lt, Le, Gt, Ge, Eq, Ne}
 use Rattle.c_base.specs.declared.operators.UnOp.{UnOp}
@@ -103,9 +102,6 @@ operated Ne signed width a b = Ok (truth_number (not (int_le a b && int_le b a))
 -- the same in an integer type of a machine
 abbrev pub applied : BinOp → IntKind → Machine → ℤ → ℤ → Result ℤ Kind
 applied op kind machine a b = operated op (is_signed kind) (width_of kind machine) a b
-
-abbrev pub computed : BinOp → IntKind → ℤ → ℤ → Result ℤ Kind
-computed op kind a b = applied op kind Lp64 a b
 
 -- `-` and `~` in a type of so many bits (C11 6.5.3.3p3 and p4); `!` is 1 where the operand is 0, and 0 otherwise (p5)
 abbrev pub operated_unary : UnOp → Bool → ℕ → ℤ → Result ℤ Kind

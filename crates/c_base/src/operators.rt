@@ -300,13 +300,13 @@ fn operate(op: BinOp, format: Format, a: i128, b: i128) -> Result<i128, Kind>
 }
 
 /// What the operator gives in the integer type, also for numbers that the type does not have.
-pub fn compute(op: BinOp, kind: IntKind, a: i128, b: i128) -> Result<i128, Kind>
+pub fn compute(op: BinOp, k: IntKind, m: Machine, a: i128, b: i128) -> Result<i128, Kind>
     requires left { IsOperand a }
     requires right { IsOperand b }
-    ensures value { result ≡ operators.computed op kind a b }
+    ensures value { result ≡ operators.applied op k m a b }
     ensures within { IfOk result IsOperand }
 {
-    operate(op, format_of(kind, Machine::Lp64), a, b)
+    operate(op, format_of(k, m), a, b)
 }
 
 /// What the operator gives in the integer type, or the kind of its undefined step (C11 6.5.5 to 6.5.12).
