@@ -1,14 +1,9 @@
 -- Bits of numbers, and numbers of bits.
-use Rattle.std.proofs.Common.{◌≡◌, ℕ, zero, suc, ◌-◌, ◌*◌, ◌/◌, ◌%◌, ◌^◌, ◌<◌, ◌≤◌, ◌==◌, Bool, true, false, cond, List, [], ◌∷◌, length, map, replicate, Ok, Err, refl, ap, arith}
+use Rattle.std.proofs.Common.{◌≡◌, ℕ, zero, suc, ◌-◌, ◌*◌, ◌/◌, ◌%◌, ◌^◌, ◌<◌, ◌≤◌, ◌==◌, true, false, cond, length, refl, ap, arith}
 use Rattle.std.proofs.Math.Nat.{pow-suc}
 use Rattle.std.specs.Prelude.{ℤ, pos, negsuc, nat_lt}
-use Rattle.std.specs.Ordering.{nat_cmp}
-use Rattle.std.specs.FinSet.{union, contains-empty, contains-union, same_set, nat_cmp-IsAntisymmetric}
-use Rattle.std.specs.Cmp.{nat_cmp_total}
-use Rattle.std.specs.List.{list_any}
 use Rattle.std.proofs.lemmas.Bool.Decides.{nat_tests}
 use Rattle.c_base.specs.declared.integer.IntKind.TheVariants.{Int}
-use Rattle.c_base.specs.declared.kind.Kind.TheVariants.{Initialization}
 use Rattle.c_base.specs.Integers.{bits_from, number_of_bits, residue, signed_number, fits_kind}
 
 pub length-bits_from : (n k : ℕ) → length (bits_from n k) ≡ k
