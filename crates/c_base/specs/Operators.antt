@@ -80,6 +80,13 @@ abbrev pub truth_number : Bool → ℤ
 truth_number true = pos 1
 truth_number false = pos 0
 
+-- what an operator takes on its right: the numbers that P says, or, where it shifts, any, since a count has a type of its own
+-- (C11 6.5.7p3)
+abbrev pub OnRight : BinOp → (ℤ → Type 0) → ℤ → Type 0
+OnRight Shl P n = Unit {0}
+OnRight Shr P n = Unit {0}
+OnRight op P n = P n
+
 -- the number that an operator gives in a type of so many bits, with or without a sign, or the kind of undefined step
 abbrev pub operated : BinOp → Bool → ℕ → ℤ → ℤ → Result ℤ Kind
 operated Add signed width a b = arithmetic signed width (a +ℤ b)
