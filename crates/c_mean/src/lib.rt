@@ -5,8 +5,6 @@ pub mod layout;
 pub mod machine;
 pub mod memory;
 pub mod number;
-#[cfg(test)]
-mod operator_tests;
 pub mod stack;
 #[cfg(test)]
 mod tests;
