@@ -255,22 +255,23 @@ pub const KEYWORDS: [Spelling; 59] = [
 fn spellings_of(length: usize) -> &'static [Spelling]
     ensures { map row result.now ≡ of_length length keywords }
 {
+    let all: &'static [Spelling] = &KEYWORDS;
     match length {
-        2 => &KEYWORDS[..2],
-        3 => &KEYWORDS[2..5],
-        4 => &KEYWORDS[5..13],
-        5 => &KEYWORDS[13..21],
-        6 => &KEYWORDS[21..30],
-        7 => &KEYWORDS[30..35],
-        8 => &KEYWORDS[35..45],
-        9 => &KEYWORDS[45..46],
-        10 => &KEYWORDS[46..51],
-        11 => &KEYWORDS[51..52],
-        12 => &KEYWORDS[52..54],
-        13 => &KEYWORDS[54..56],
-        14 => &KEYWORDS[56..57],
-        17 => &KEYWORDS[57..58],
-        18 => &KEYWORDS[58..],
+        2 => &all[..2],
+        3 => &all[2..5],
+        4 => &all[5..13],
+        5 => &all[13..21],
+        6 => &all[21..30],
+        7 => &all[30..35],
+        8 => &all[35..45],
+        9 => &all[45..46],
+        10 => &all[46..51],
+        11 => &all[51..52],
+        12 => &all[52..54],
+        13 => &all[54..56],
+        14 => &all[56..57],
+        17 => &all[57..58],
+        18 => &all[58..],
         _ => &[],
     }
 }

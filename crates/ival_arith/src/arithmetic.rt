@@ -20,9 +20,7 @@ use c_base::format::{Format, format_of, power};
 use c_base::integer::{IntKind, Machine};
 use c_base::kind::{Kind, KindSet};
 use c_base::operators::BinOp;
-use ival_core::{Ival, Progression, Shape};
-
-const LIMIT: i128 = 0x100_0000_0000_0000_0000_0000_0000_0000;
+use ival_core::{Ival, LIMIT, Progression, Shape};
 
 /// Sums in a type: those that it can hold, or all of them reduced.
 fn added(format: Format, a: &Ival, b: &Ival) -> Ival
@@ -36,7 +34,8 @@ fn added(format: Format, a: &Ival, b: &Ival) -> Ival
     }
 }
 
-pub(crate) fn both(a: bool, b: bool) -> bool
+/// Both hold.
+pub fn both(a: bool, b: bool) -> bool
     ensures { result ≡ (a && b) }
 {
     if a { b } else { false }

@@ -11,9 +11,7 @@ use crate::floors::floored;
 use crate::pieces::{Change, changed, clipped, join};
 use crate::values::residues;
 use c_base::format::Format;
-use ival_core::Ival;
-
-const LIMIT: i128 = 0x100_0000_0000_0000_0000_0000_0000_0000;
+use ival_core::{Ival, LIMIT};
 
 /// Which of the results of a division.
 #[derive(Clone, Copy)]

@@ -8,9 +8,7 @@ ghost use Rattle.ival_arith.specs.Exact.{shape_option, sums_stay, exact_sum, exa
 
 use crate::pieces::{Change, changed};
 use crate::sums::sums;
-use ival_core::Ival;
-
-const LIMIT: i128 = 0x100_0000_0000_0000_0000_0000_0000_0000;
+use ival_core::{Ival, LIMIT};
 
 /// All sums are numbers that an `Ival` may hold.
 fn sums_stay(a: &Ival, b: &Ival) -> bool

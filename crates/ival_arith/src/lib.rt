@@ -20,6 +20,7 @@ mod terms;
 mod values;
 
 pub use answers::{Answer, binary, negate, typed};
+pub use arithmetic::both;
 pub use exact::{exact_add, exact_sub};
 pub use floors::floored;
 pub use kinds::holds_number;

@@ -18,9 +18,7 @@ use crate::sums::eight;
 use crate::values::few_results;
 use c_base::format::{Format, power};
 use c_base::operators::BinOp;
-use ival_core::{Ival, Progression, Shape};
-
-const LIMIT: i128 = 0x100_0000_0000_0000_0000_0000_0000_0000;
+use ival_core::{Ival, LIMIT, Progression, Shape};
 
 /// How many factors that are not far from 0 are tried, at most.
 const MOST: u128 = 64;

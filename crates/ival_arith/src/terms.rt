@@ -16,9 +16,7 @@ use crate::arithmetic::both;
 use crate::kinds::{either, holds_number, holds_some};
 use crate::pieces::{Change, changed, join, with};
 use crate::products::{extent, is_natural, low_of};
-use ival_core::{Ival, Progression, Shape, run_from};
-
-const LIMIT: i128 = 0x100_0000_0000_0000_0000_0000_0000_0000;
+use ival_core::{Ival, LIMIT, Progression, Shape, run_from};
 
 /// Which term of two numbers.
 #[derive(Clone, Copy)]

@@ -16,8 +16,6 @@ use c_base::kind::Kind;
 use c_base::operators::{BinOp, apply_binary};
 use ival_core::{Ival, Progression, Shape};
 
-const LIMIT: i128 = 0x100_0000_0000_0000_0000_0000_0000_0000;
-
 /// With the result, if there is one.
 pub(crate) fn with_result(all: Ival, outcome: Result<i128, Kind>) -> Ival
     requires { IfOk outcome IsNumber }

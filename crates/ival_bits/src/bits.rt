@@ -19,9 +19,7 @@ use c_base::kind::{Kind, KindSet};
 use c_base::operators::BinOp;
 use ival_arith::sums::sums;
 use ival_arith::{Answer, few_results, residues, typed};
-use ival_core::{Ival, Shape};
-
-const LIMIT: i128 = 0x100_0000_0000_0000_0000_0000_0000_0000;
+use ival_core::{Ival, LIMIT, Shape};
 
 /// Results of `&`, where one of the sets is long.
 #[tactic(auto, unfolding(crate::specs::Bitwise::long_and))]

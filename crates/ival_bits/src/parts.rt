@@ -10,9 +10,7 @@ ghost use Rattle.ival_bits.specs.Parts.{part, extracted, glued, concatenated};
 use c_base::format::power;
 use ival_arith::sums::sums;
 use ival_arith::{Change, changed, floored, residues};
-use ival_core::Ival;
-
-const LIMIT: i128 = 0x100_0000_0000_0000_0000_0000_0000_0000;
+use ival_core::{Ival, LIMIT};
 
 /// `bits` bits of each number, from bit `low` on.
 pub fn extract(a: &Ival, low: u32, bits: u32) -> Ival

@@ -11,6 +11,7 @@ ghost use Rattle.ival_bits.specs.Spans.{IsEnds, Within, length_of, sized, ends_s
 use crate::wraps::{last, negative};
 use c_base::format::Format;
 use c_base::operators::BinOp;
+use ival_arith::both;
 use ival_core::{Ival, run_from};
 
 /// The least and the greatest number of a set.
@@ -100,12 +101,6 @@ fn and_span(a: Ends, b: Ends, bits: u32) -> Ival
     } else {
         span(false, bits)
     }
-}
-
-pub(crate) fn both(a: bool, b: bool) -> bool
-    ensures { result ≡ (a && b) }
-{
-    if a { b } else { false }
 }
 
 #[tactic(auto, unfolding(crate::specs::Spans::or_span))]

@@ -14,4 +14,4 @@ mod widening;
 
 pub use hull::gcd;
 pub use steps::run_from;
-pub use value::{Ival, Progression, Shape};
+pub use value::{Ival, LIMIT, Progression, Shape};

@@ -6,6 +6,9 @@ ghost use Rattle.std.specs.Option.{option_copied};
 
 use arrayvec::ArrayVec;
 
+/// The numbers of a set lie from `-LIMIT` to `LIMIT`.
+pub const LIMIT: i128 = 1 << 120;
+
 /// The numbers `low`, `low + stride`, `low + 2 * stride` and so on, up to `high`.
 #[derive(Clone, Copy, Drop)]
 pub struct Progression {

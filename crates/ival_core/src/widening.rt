@@ -5,13 +5,10 @@ ghost use Rattle.ival_core.specs.Widenings.{AreMarks, IsMarkBelow, IsMarkAbove, 
 ghost use Rattle.ival_core.specs.Chains.{Falls};
 ghost use Rattle.ival_core.specs.Views.{bounds_of};
 
-use crate::value::Ival;
+use crate::value::{Ival, LIMIT};
 
 /// The least number that an `Ival` may hold.
-const LOWEST: i128 = -(1 << 120);
-
-/// The greatest number that an `Ival` may hold.
-const HIGHEST: i128 = 1 << 120;
+const LOWEST: i128 = -LIMIT;
 
 impl Ival {
     /// The numbers of both, where a bound of this set that `o` moves goes on to the next mark.
@@ -140,11 +137,7 @@ fn mark_at_least(n: i128, marks: &[i128]) -> i128
     ensures number { IsNumber result }
 {
     let at = marks_below(n, marks);
-    if at == marks.len() {
-        HIGHEST
-    } else {
-        marks[at]
-    }
+    if at == marks.len() { LIMIT } else { marks[at] }
 }
 
 /// How many of `marks` are below `n`, by halving.
