@@ -14,7 +14,7 @@ use c_base::operators::{BinOp, compute};
 use c_memory::scalar::Scalar;
 
 /// A number from -2^64 to 2^64 - 1: `Natural(n)` is n, and `Negative(n)` is -1 - n.
-#[derive(Clone, Copy, Debug, PartialEq, Eq)]
+#[derive(Clone, Copy, Drop)]
 pub enum Number {
     Natural(u64),
     Negative(u64),

@@ -1,0 +1,188 @@
+use crate::reading::large;
+use crate::runs::{held_byte, kind_byte, runs_so, told};
+use c_base::integer::{IntKind, Machine};
+use c_base::kind::Kind;
+use c_memory::scalar::Scalar;
+use c_stepper::layout::Layout;
+use c_stepper::number::Number;
+use c_stepper::stack::Stack;
+use c_stepper::stepper::Stepper;
+use c_stepper::tree::{ResultType, Stmts};
+use c_stepper::value::{Cell, Held, Value};
+use c_stepper::work::{Outcome, State, Work};
+use sqlite_items::Items;
+use std::alloc::{AllocError, Global};
+use std::rc::Rc;
+use std::test::Fail;
+
+#[test]
+fn statements_run(rt: HostRuntime) -> Result<(), Fail> {
+    let alloc = rt.alloc();
+    for (text, expected) in [
+        (b";=x3rx".as_slice(), b"1u- 23- =3".as_slice()),
+        (
+            b";=x1?<x2;=x5;=x6rx".as_slice(),
+            b"1u- 21- 31- 55- =5".as_slice(),
+        ),
+        (b";=x2?<x2;=x5.rx".as_slice(), b"1u- 22- 42- =2".as_slice()),
+        (b";=x0w<x0;=x1rx".as_slice(), b"1u- 20- 40- =0".as_slice()),
+        (
+            b";=x0w<x2;=x+x1rx".as_slice(),
+            b"1u- 20- 30- 21- 31- 22- 42- =2".as_slice(),
+        ),
+        (b";=x7{y;=yx}".as_slice(), b"1u- 27u 37- =0".as_slice()),
+        (
+            b";=x1w<x3{y;=y+x1;=xy}rx".as_slice(),
+            b"1u- 21- 31u 412 22- 32u 423 23- 53- =3".as_slice(),
+        ),
+        (b"w1{yr=x4}".as_slice(), b"1u- 2uu =4".as_slice()),
+        (b"rs".as_slice(), b"1u- =0".as_slice()),
+    ] {
+        assert!(rt; runs_so(alloc, text, expected)?);
+    }
+    let endless = told(alloc, b"w1.", true)?;
+    assert!(rt; endless.as_slice().ends_with(b"*"));
+    Ok(())
+}
+
+#[test]
+fn each_kind_stops(rt: HostRuntime) -> Result<(), Fail> {
+    let alloc = rt.alloc();
+    for (text, expected) in [
+        (b"rx".as_slice(), b"1u- i1".as_slice()),
+        (b";=xM;=x+x1".as_slice(), b"1u- 2M- o2".as_slice()),
+        (b";=x/1-11".as_slice(), b"1u- z1".as_slice()),
+        (b";=xlx1".as_slice(), b"1u- i1".as_slice()),
+        (b";=xl1M".as_slice(), b"1u- s1".as_slice()),
+        (b"ry".as_slice(), b"1u- m1".as_slice()),
+        (b"?xr1r2".as_slice(), b"1u- i1".as_slice()),
+        (b";=x3w/x-33.".as_slice(), b"1u- 23- z2".as_slice()),
+        (b";+y/10".as_slice(), b"1u- m1".as_slice()),
+    ] {
+        assert!(rt; runs_so(alloc, text, expected)?);
+    }
+    Ok(())
+}
+
+fn bare(alloc: Global) -> Stepper {
+    Stepper {
+        alloc,
+        layout: Layout {
+            machine: Machine::Lp64,
+            objects: Items::new(alloc),
+        },
+    }
+}
+
+/// A state in which a function that has base 1 as an object hands over what is held, to a caller whose `return` is statement 7.
+fn leaving(alloc: Global, held: Held, work: Work) -> Result<State, AllocError> {
+    let mut control = Stack::new(alloc);
+    control.push(Work::Frame(0, None))?;
+    control.push(Work::Deliver(7))?;
+    control.push(Work::Frame(9, Some(3)))?;
+    let objects = Items::from_slice(alloc, &[1])?;
+    control.push(Work::Close(objects, Rc::new(alloc, Stmts::Done)?))?;
+    control.push(work)?;
+    let mut stack = Stack::new(alloc);
+    stack.push(held)?;
+    Ok(State {
+        control,
+        held: stack,
+        memory: Stack::new(alloc),
+    })
+}
+
+fn pointer(alloc: Global, base: u32) -> Result<Value, AllocError> {
+    Ok(Value {
+        number: Number::Natural(5),
+        bases: Items::from_slice(alloc, &[base])?,
+    })
+}
+
+/// The kind with which the next step stops, and its statement.
+fn stops_with(stepper: &Stepper, state: &mut State, kind: u8, at: u32) -> Result<bool, AllocError> {
+    match stepper.step(state)? {
+        Outcome::Stops(found, id, _) => Ok(kind_byte(found) == kind && id == at),
+        _ => Ok(false),
+    }
+}
+
+fn goes(stepper: &Stepper, state: &mut State) -> Result<bool, AllocError> {
+    match stepper.step(state)? {
+        Outcome::Goes => Ok(true),
+        _ => Ok(false),
+    }
+}
+
+#[test]
+fn a_returned_scalar_is_used(rt: HostRuntime) -> Result<(), Fail> {
+    let alloc = rt.alloc();
+    let stepper = bare(alloc);
+    let int = ResultType::Returns(Scalar::Integer(IntKind::Int));
+    let mut fallen = leaving(alloc, Held::Absent, Work::Brace(4, int))?;
+    assert!(rt; goes(&stepper, &mut fallen)?);
+    assert!(rt; stops_with(&stepper, &mut fallen, b'i', 7)?);
+    let unusable = Held::Unusable(Kind::Initialization);
+    let mut uninit = leaving(alloc, unusable, Work::Deliver(2))?;
+    assert!(rt; stops_with(&stepper, &mut uninit, b'i', 2)?);
+    let dead = Held::Usable(pointer(alloc, 1)?);
+    let mut dangling = leaving(alloc, dead, Work::Deliver(2))?;
+    assert!(rt; goes(&stepper, &mut dangling)?);
+    assert!(rt; stops_with(&stepper, &mut dangling, b'd', 7)?);
+    let live = Held::Usable(pointer(alloc, 2)?);
+    let mut other = leaving(alloc, live, Work::Deliver(2))?;
+    assert!(rt; goes(&stepper, &mut other)?);
+    assert!(rt; held_byte(other.held.pop()) == b'5');
+    Ok(())
+}
+
+#[test]
+fn a_void_function_has_no_value(rt: HostRuntime) -> Result<(), Fail> {
+    let alloc = rt.alloc();
+    let stepper = bare(alloc);
+    let mut state = leaving(alloc, Held::Absent, Work::Brace(4, ResultType::Void))?;
+    assert!(rt; goes(&stepper, &mut state)?);
+    assert!(rt; held_byte(state.held.pop()) == b'a');
+    Ok(())
+}
+
+/// Two cells are handed over: the first is dead, and the second is a bit.
+fn is_half_dead(held: Option<Held>) -> bool {
+    let Some(Held::Cells(cells)) = held else {
+        return false;
+    };
+    let mut dead = 0u32;
+    let mut bits = 0u32;
+    for cell in cells.as_slice() {
+        match cell {
+            Cell::Uninit => return false,
+            Cell::Dead => dead = dead.wrapping_add(1),
+            Cell::Bit(_, _, _) => bits = bits.wrapping_add(1),
+        }
+    }
+    dead == 1 && bits == 1
+}
+
+#[test]
+fn cells_of_a_returned_struct_die(rt: HostRuntime) -> Result<(), Fail> {
+    let alloc = rt.alloc();
+    let stepper = bare(alloc);
+    let mut cells = Items::new(alloc);
+    for base in [1, 2] {
+        cells.push(Cell::Bit(true, Items::from_slice(alloc, &[base])?, 0))?;
+    }
+    let mut state = leaving(alloc, Held::Cells(cells), Work::Deliver(2))?;
+    assert!(rt; goes(&stepper, &mut state)?);
+    assert!(rt; is_half_dead(state.held.pop()));
+    Ok(())
+}
+
+#[test]
+fn bases_have_room_up_to_the_last_address(rt: HostRuntime) -> Result<(), Fail> {
+    let alloc = rt.alloc();
+    let full = large(alloc, 32768, 0xffff_ffff, 32767)?;
+    assert!(rt; Stepper::new(alloc, &full)?.is_some());
+    let more = large(alloc, 32768, 0xffff_ffff, 32768)?;
+    assert!(rt; Stepper::new(alloc, &more)?.is_none());
+    Ok(())
+}
