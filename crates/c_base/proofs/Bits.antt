@@ -1,14 +1,10 @@
 -- Bits of numbers, and numbers of bits.
-use Rattle.std.proofs.Common.{◌≡◌, ℕ, zero, suc, ◌-◌, ◌*◌, ◌/◌, ◌%◌, ◌^◌, ◌<◌, ◌≤◌, ◌==◌, Bool, true, false, cond, List, [], ◌∷◌, length, map, replicate, Ok, Err, refl, ap, arith}
+use Rattle.std.proofs.Common.{◌≡◌, ℕ, zero, suc, ◌-◌, ◌*◌, ◌/◌, ◌%◌, ◌^◌, ◌<◌, ◌≤◌, ◌==◌, true, false, cond, length, refl, ap, arith}
 use Rattle.std.proofs.Math.Nat.{pow-suc}
 use Rattle.std.specs.Prelude.{ℤ, pos, negsuc, nat_lt}
-use Rattle.std.specs.Ordering.{nat_cmp}
-use Rattle.std.specs.FinSet.{union, contains-empty, contains-union, same_set, nat_cmp-IsAntisymmetric}
-use Rattle.std.specs.Cmp.{nat_cmp_total}
-use Rattle.std.specs.List.{list_any}
 use Rattle.std.proofs.lemmas.Bool.Decides.{nat_tests}
 use Rattle.c_base.specs.declared.integer.IntKind.TheVariants.{Int}
-use Rattle.c_base.specs.declared.kind.Kind.TheVariants.{Initialization}
+use Rattle.c_base.specs.declared.integer.Machine.TheVariants.{Lp64}
 use Rattle.c_base.specs.Integers.{bits_from, number_of_bits, residue, signed_number, fits_kind}
 
 pub length-bits_from : (n k : ℕ) → length (bits_from n k) ≡ k
@@ -32,17 +28,17 @@ number_of_bits-bits_from n (suc k) h =
     let low = lowest_bit n in
     rw (low, rest) (omega arith)
 
-pub fits_pos : (n : ℕ) → fits_kind Int (pos n) ≡ true → n ≤ 2147483647
+pub fits_pos : (n : ℕ) → fits_kind Int Lp64 (pos n) ≡ true → n ≤ 2147483647
 fits_pos n h = grind (arith, nat_tests)
 
-pub fits_neg : (n : ℕ) → fits_kind Int (negsuc n) ≡ true → n ≤ 2147483647
+pub fits_neg : (n : ℕ) → fits_kind Int Lp64 (negsuc n) ≡ true → n ≤ 2147483647
 fits_neg n h = grind (arith, nat_tests)
 
-pub pos_fits : (n : ℕ) → n ≤ 2147483647 → fits_kind Int (pos n) ≡ true
+pub pos_fits : (n : ℕ) → n ≤ 2147483647 → fits_kind Int Lp64 (pos n) ≡ true
 pos_fits n h = grind (arith, nat_tests)
 
 -- a number of int in two's complement, and back
-pub signed_back : (n : ℤ) → fits_kind Int n ≡ true → (residue (2 ^ 32) n < 2 ^ 32) × (signed_number true 32 (residue (2 ^ 32) n) ≡ n)
+pub signed_back : (n : ℤ) → fits_kind Int Lp64 n ≡ true → (residue (2 ^ 32) n < 2 ^ 32) × (signed_number true 32 (residue (2 ^ 32) n) ≡ n)
 signed_back (pos n) h =
     let small = fits_pos n h in
     let same : n % 4294967296 ≡ n = omega arith in

@@ -6,3 +6,4 @@ pub mod Products
 pub mod KindSets
 pub mod Singles
 pub mod Within
+pub mod Counts

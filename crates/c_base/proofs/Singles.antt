@@ -8,7 +8,7 @@ use Rattle.std.proofs.lemmas.Bool.Decides.{nat_tests}
 use Rattle.std.proofs.Math.Nat.{mod-eq_of_lt}
 use Rattle.c_base.specs.declared.kind.Kind.{Kind}
 use Rattle.c_base.specs.Integers.{residue, fits_bits, signed_number}
-use Rattle.c_base.specs.Operators.{in_type, on_bits, complement, xor, remainder, is_zero}
+use Rattle.c_base.specs.Operators.{in_type, on_bits, complement, xor, quotient, remainder, is_zero}
 use Rattle.c_base.proofs.Residues.{residue-mul, residue_below}
 use Rattle.c_base.proofs.Patterns.{zip_bits-and, zip_bits-or, zip_bits-xor, map-not_are}
 
@@ -81,6 +81,14 @@ passed_sub f a b x y z = rw (to_z-of_z w128 a x, to_z-of_z w128 b y) (passed f (
 pub passed_div : {A : Type 0} (f : ℤ → A) (a b : ℤ) → FitsSigned w128 a → FitsSigned w128 b → FitsSigned w128 (int_div a b) →
     f (to_z w128 (of_z w128 (int_div (to_z w128 (of_z w128 a)) (to_z w128 (of_z w128 b))))) ≡ f (int_div a b)
 passed_div f a b x y z = rw (to_z-of_z w128 a x, to_z-of_z w128 b y) (passed f (int_div a b) z)
+
+pub quotient_is : (signed : Bool) (width : ℕ) (a b : ℤ) → FitsSigned w128 a → FitsSigned w128 b → FitsSigned w128 (int_div a b) → is_zero b ≡ false →
+    fits_bits signed width (int_div a b) ≡ true →
+    Ok (to_z w128 (of_z w128 (int_div (to_z w128 (of_z w128 a)) (to_z w128 (of_z w128 b))))) ≡ quotient signed width a b
+quotient_is signed width a b x y f z t = passed_div {A = Result ℤ Kind} (λ n. Ok n) a b x y f ∙ own
+  where
+    own : ◌≡◌ {A = Result ℤ Kind} (Ok (int_div a b)) (quotient signed width a b)
+    own = rw (z, t) refl
 
 pub passed_neg : {A : Type 0} (f : ℤ → A) (a : ℤ) → FitsSigned w128 a → FitsSigned w128 (pos 0 -ℤ a) →
     f (to_z w128 (of_z w128 (pos 0 -ℤ to_z w128 (of_z w128 a)))) ≡ f (neg_ℤ a)

@@ -3,7 +3,6 @@ use Rattle.std.specs.Prelude.{ℕ, ◌^◌, ◌/◌, Bool, true, false, cond, no
 use Rattle.c_base.specs.declared.integer.IntKind.{IntKind}
 use Rattle.c_base.specs.declared.integer.IntKind.TheVariants.{Bool as bool_kind}
 use Rattle.c_base.specs.declared.integer.Machine.{Machine}
-use Rattle.c_base.specs.declared.integer.Machine.TheVariants.{Lp64}
 use Rattle.c_base.specs.declared.operators.BinOp.{BinOp}
 use Rattle.c_base.specs.declared.operators.BinOp.TheVariants.{Add, Sub, Mul, Div, Rem, And, Or, Xor, Shl, Shr, Lt, Le, Gt, Ge, Eq, Ne}
 use Rattle.c_base.specs.declared.operators.UnOp.{UnOp}
@@ -81,6 +80,13 @@ abbrev pub truth_number : Bool → ℤ
 truth_number true = pos 1
 truth_number false = pos 0
 
+-- what an operator takes on its right: the numbers that P says, or, where it shifts, any, since a count has a type of its own
+-- (C11 6.5.7p3)
+abbrev pub OnRight : BinOp → (ℤ → Type 0) → ℤ → Type 0
+OnRight Shl P n = Unit {0}
+OnRight Shr P n = Unit {0}
+OnRight op P n = P n
+
 -- the number that an operator gives in a type of so many bits, with or without a sign, or the kind of undefined step
 abbrev pub operated : BinOp → Bool → ℕ → ℤ → ℤ → Result ℤ Kind
 operated Add signed width a b = arithmetic signed width (a +ℤ b)
@@ -103,9 +109,6 @@ operated Ne signed width a b = Ok (truth_number (not (int_le a b && int_le b a))
 -- the same in an integer type of a machine
 abbrev pub applied : BinOp → IntKind → Machine → ℤ → ℤ → Result ℤ Kind
 applied op kind machine a b = operated op (is_signed kind) (width_of kind machine) a b
-
-abbrev pub computed : BinOp → IntKind → ℤ → ℤ → Result ℤ Kind
-computed op kind a b = applied op kind Lp64 a b
 
 -- `-` and `~` in a type of so many bits (C11 6.5.3.3p3 and p4); `!` is 1 where the operand is 0, and 0 otherwise (p5)
 abbrev pub operated_unary : UnOp → Bool → ℕ → ℤ → Result ℤ Kind

@@ -2,6 +2,7 @@
 //! integer types, and C's operators on numbers.
 #![tactic(auto)]
 
+pub mod format;
 pub mod integer;
 pub mod kind;
 pub mod name;

@@ -6,6 +6,7 @@ ghost use Rattle.c_base.specs.Integers.{FitsKind};
 ghost use Rattle.c_base.specs.Operators as operators;
 ghost use Rattle.c_base.specs.Wide.{IsWide, IsOperand};
 
+use crate::format::{Format, format_of, power};
 use crate::integer::{IntKind, Machine};
 use crate::kind::Kind;
 
@@ -17,7 +18,8 @@ pub enum UnOp {
     Compl,
 }
 
-/// C's binary operators (C11 6.5.5 to 6.5.12). Their operands stand converted to one type.
+/// C's binary operators (C11 6.5.5 to 6.5.12). Their operands stand converted to one type, but for the count of a shift,
+/// which has a type of its own (C11 6.5.7p3).
 #[derive(Clone, Copy, Debug, PartialEq, Eq)]
 pub enum BinOp {
     Add,
@@ -49,80 +51,24 @@ pub enum Rel {
     Ne,
 }
 
-/// How a type keeps its numbers: with or without a sign, in `width` bits.
-#[derive(Clone, Copy, Drop)]
-struct Format {
-    signed: bool,
-    width: u32,
-    ghost room: { (0 < width) × (width ≤ 64) },
-}
-
-fn format_of(kind: IntKind, machine: Machine) -> Format
-    ensures signed { result.signed ≡ integers.is_signed kind }
-    ensures width { result.width ≡ integers.width_of kind machine }
-{
-    match machine {
-        Machine::Lp64 => {
-            match kind {
-                IntKind::Bool => Format {
-                    signed: false,
-                    width: 1,
-                },
-                IntKind::Char | IntKind::SChar => Format {
-                    signed: true,
-                    width: 8,
-                },
-                IntKind::UChar => Format {
-                    signed: false,
-                    width: 8,
-                },
-                IntKind::Short => Format {
-                    signed: true,
-                    width: 16,
-                },
-                IntKind::UShort => Format {
-                    signed: false,
-                    width: 16,
-                },
-                IntKind::Int => Format {
-                    signed: true,
-                    width: 32,
-                },
-                IntKind::UInt => Format {
-                    signed: false,
-                    width: 32,
-                },
-                IntKind::Long | IntKind::LLong => Format {
-                    signed: true,
-                    width: 64,
-                },
-                IntKind::ULong | IntKind::ULLong => Format {
-                    signed: false,
-                    width: 64,
-                },
-            }
-        }
-    }
-}
-
-/// 2 to the `exponent`.
-fn power(exponent: u32) -> i128
+/// 2 to the `exponent`, among the signed numbers.
+fn signed_power(exponent: u32) -> i128
     requires { exponent ≤ 64 }
     ensures value { result ≡ pos (2 ^ exponent) }
     ensures some { pos 0 <ℤ result }
     ensures small { result ≤ℤ pos (2 ^ 64) }
 {
-    (1u128 << exponent) as i128
+    power(exponent) as i128
 }
 
 fn fits(format: Format, n: i128) -> bool
     ensures { result ≡ integers.fits_bits format.signed format.width n }
 {
     if format.signed {
-        let half = power(format.width - 1);
+        let half = signed_power(format.width - 1);
         -half <= n && n < half
     } else {
-        0 <= n && n < power(format.width)
+        0 <= n && n < signed_power(format.width)
     }
 }
 
@@ -132,7 +78,7 @@ fn residue(format: Format, n: i128) -> u128
     ensures below { result < 2 ^ format.width }
     ensures small { result < 2 ^ 64 }
 {
-    n.rem_euclid(power(format.width)) as u128
+    n.rem_euclid(signed_power(format.width)) as u128
 }
 
 /// The number of the type that is the result, or the kind where there is none.
@@ -159,7 +105,7 @@ fn product(kind: Kind, format: Format, a: i128, b: i128) -> Result<i128, Kind>
         }
     } else {
         let n = residue(format, a) * residue(format, b);
-        Ok((n % power(format.width) as u128) as i128)
+        Ok((n % signed_power(format.width) as u128) as i128)
     }
 }
 
@@ -169,8 +115,8 @@ fn from_pattern(format: Format, pattern: u128) -> i128
     ensures { result ≡ integers.signed_number format.signed format.width pattern }
 {
     let n = pattern as i128;
-    if format.signed && power(format.width - 1) <= n {
-        n - power(format.width)
+    if format.signed && signed_power(format.width - 1) <= n {
+        n - signed_power(format.width)
     } else {
         n
     }
@@ -180,7 +126,7 @@ fn from_pattern(format: Format, pattern: u128) -> i128
 fn complement(format: Format, a: i128) -> i128
     ensures { result ≡ operators.complement format.signed format.width a }
 {
-    let ones = power(format.width) as u128 - 1;
+    let ones = signed_power(format.width) as u128 - 1;
     from_pattern(format, ones - residue(format, a))
 }
 
@@ -251,7 +197,7 @@ fn shifted_left(format: Format, a: i128, b: i128) -> Result<i128, Kind>
             if a < 0 {
                 Err(Kind::Shift)
             } else {
-                product(Kind::Shift, format, a, power(count))
+                product(Kind::Shift, format, a, signed_power(count))
             }
         }
         None => Err(Kind::Shift),
@@ -263,7 +209,7 @@ fn shifted_right(format: Format, a: i128, b: i128) -> Result<i128, Kind>
     ensures { result ≡ operators.shifted_right format.width a b }
 {
     match count(format, b) {
-        Some(count) => Ok(a.div_euclid(power(count))),
+        Some(count) => Ok(a.div_euclid(signed_power(count))),
         None => Err(Kind::Shift),
     }
 }
@@ -276,7 +222,7 @@ fn truth_number(truth: bool) -> i128
 
 fn operate(op: BinOp, format: Format, a: i128, b: i128) -> Result<i128, Kind>
     requires left { IsWide a }
-    requires right { IsWide b }
+    requires right { operators.OnRight op IsWide b }
     ensures { result ≡ operators.operated op format.signed format.width a b }
 {
     match op {
@@ -300,19 +246,19 @@ fn operate(op: BinOp, format: Format, a: i128, b: i128) -> Result<i128, Kind>
 }
 
 /// What the operator gives in the integer type, also for numbers that the type does not have.
-pub fn compute(op: BinOp, kind: IntKind, a: i128, b: i128) -> Result<i128, Kind>
+pub fn compute(op: BinOp, k: IntKind, m: Machine, a: i128, b: i128) -> Result<i128, Kind>
     requires left { IsOperand a }
     requires right { IsOperand b }
-    ensures value { result ≡ operators.computed op kind a b }
+    ensures value { result ≡ operators.applied op k m a b }
     ensures within { IfOk result IsOperand }
 {
-    operate(op, format_of(kind, Machine::Lp64), a, b)
+    operate(op, format_of(k, m), a, b)
 }
 
 /// What the operator gives in the integer type, or the kind of its undefined step (C11 6.5.5 to 6.5.12).
 pub fn apply_binary(op: BinOp, k: IntKind, m: Machine, a: i128, b: i128) -> Result<i128, Kind>
     requires left { FitsKind k m a }
-    requires right { FitsKind k m b }
+    requires right { operators.OnRight op (λ n. FitsKind k m n) b }
     ensures { result ≡ operators.applied op k m a b }
 {
     operate(op, format_of(k, m), a, b)

@@ -1,4 +1,2 @@
 pub mod Runs
 pub mod Evaluation
-pub mod Cells
-pub mod Histories

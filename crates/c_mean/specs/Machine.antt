@@ -1,89 +1,68 @@
 -- The meaning of programs: a machine that goes through a list of work (C11 5.1.2.3, 6.5, 6.8), from left to right.
-use Rattle.std.specs.Prelude.{ℕ, ◌≡◌, ◌==◌, Bool, true, false, cond, not, List, [], ◌∷◌, ◌++◌, ℤ, pos, int_le, ◌&&◌, Option, None, Some, Result, Ok, Err}
+use Rattle.std.specs.Prelude.{ℕ, ◌≡◌, ◌==◌, ◌*◌, Bool, true, false, cond, List, [], ◌∷◌, ◌++◌, map, replicate, pos, Option, None, Some, Result, Ok, Err}
 use Rattle.std.specs.List.{list_any}
-use Rattle.std.specs.FinSet.{contains, union}
+use Rattle.std.specs.FinSet.{contains}
 use Rattle.c_base.specs.declared.integer.IntKind.{IntKind}
 use Rattle.c_base.specs.declared.operators.BinOp.{BinOp}
-use Rattle.c_base.specs.declared.operators.BinOp.TheVariants.{Add, Sub, Mul, Div, Rem, And, Or, Xor, Shl, Shr, Lt, Le, Gt, Ge, Eq, Ne}
 use Rattle.c_base.specs.declared.kind.Kind.{Kind}
 use Rattle.c_base.specs.declared.kind.Kind.TheVariants.{Initialization, DanglingPointer}
-use Rattle.c_memory.specs.Values.{Value, plain, Provenance, nowhere, Cell}
-use Rattle.c_base.specs.Operators.{computed}
+use Rattle.c_memory.specs.declared.scalar.Scalar.{Scalar}
+use Rattle.c_memory.specs.declared.scalar.Scalar.TheVariants.{Integer}
+use Rattle.c_memory.specs.Values.{Value, plain, nowhere, Cell, Bit, wither}
 use Rattle.c_memory.specs.Layouts.{Layout}
 use Rattle.c_memory.specs.Memories.{Memory, address_of, loaded, stored, born, died}
-use Rattle.c_prog.specs.Syntax.{Place, Variable, Expr, Number, Load, Binary, Assign, Stmt, Expression, Return, If, While, Block, Nothing, Stmts, Done, Next, Function, Program}
+use Rattle.c_memory.specs.Operations.{truth_of, applied_to}
+use Rattle.c_prog.specs.declared.base.BaseSort.{BaseSort}
+use Rattle.c_prog.specs.declared.base.BaseSort.TheVariants.{Static, Text, Context}
+use Rattle.c_prog.specs.Syntax.{Lvalue, Variable, Expr, Number, Load, Binary, Assign, Stmt, Expression, Return, If, While, Block, Nothing, Stmts, Done, Next, ResultType, Void, Returns, Base, base_at, Function, Program}
 
 -- ---- what is held while expressions are evaluated
 
--- A value; a returned value that no step may use, with the kind with which its use stops; the cells of a struct or union; or no value.
+-- A scalar that may be used; a returned scalar that no step may use, with the kind with which its use stops; the cells of a struct or
+-- union; or no value.
 pub data Held : Type 0 where
-  Scalar : Value → Held
+  Usable : Value → Held
   Unusable : Kind → Held
   Cells : List Cell → Held
   Absent : Held
 
 -- the use of a held scalar (C11 6.3.2.1p2, 6.2.4p2)
 abbrev pub used : Held → Result Value Kind
-used (Scalar v) = Ok v
+used (Usable v) = Ok v
 used (Unusable kind) = Err kind
 used (Cells cells) = Err Initialization
 used Absent = Err Initialization
 
-abbrev pub is_zero : ℤ → Bool
-is_zero n = int_le n (pos 0) && int_le (pos 0) n
-
--- a scalar is true where it compares unequal to 0 (C11 6.8.4.1p2, 6.8.5p4)
-abbrev pub truth_of : Value → Bool
-truth_of v = not (is_zero v.number)
-
-abbrev pub is_comparison : BinOp → Bool
-is_comparison Add = false
-is_comparison Sub = false
-is_comparison Mul = false
-is_comparison Div = false
-is_comparison Rem = false
-is_comparison And = false
-is_comparison Or = false
-is_comparison Xor = false
-is_comparison Shl = false
-is_comparison Shr = false
-is_comparison Lt = true
-is_comparison Le = true
-is_comparison Gt = true
-is_comparison Ge = true
-is_comparison Eq = true
-is_comparison Ne = true
-
--- operators on integers unite the provenances of their operands, and comparisons have none
-abbrev pub provenance_after : BinOp → Provenance → Provenance → Provenance
-provenance_after op p q = cond (is_comparison op) nowhere (union p q)
-
 -- ---- work
 
--- What is still to do. No item holds what the run computes, so the list tells where in the program the run is.
+-- What is still to do. No item holds what the run computes, so the list is the place of control: it tells where in the program the run is.
 pub data Work : Type 0 where
   -- carry out a statement
   Do : Stmt → Work
   -- evaluate an expression, and hold its value
   Evaluate : Expr → Work
   -- find an lvalue, and hold its address
-  Locate : Place → Work
+  Locate : Lvalue → Work
   -- load from the held address
-  Fetch : IntKind → Work
+  Fetch : Scalar → Work
   -- store the held value at the address held below it, and hold the value
-  Store : IntKind → Work
+  Store : Scalar → Work
   -- apply an operator to the two values held last
   Apply : BinOp → IntKind → Work
   -- the end of an expression statement: its value is discarded
   Discard : ℕ → Work
   -- the held truth chooses between the statements of an `if`
   Choose : ℕ → Stmt → Stmt → Work
-  -- the held truth begins another turn of a `while`, or ends it
+  -- the head of a loop, where its condition is evaluated; behind its body the mark by which the body belongs to the loop
+  Loop : ℕ → Expr → Stmt → Work
+  -- the held truth begins another turn of a loop, or ends it
   Turn : ℕ → Expr → Stmt → Work
   -- a `return` hands the held value to the caller
   Deliver : ℕ → Work
-  -- the closing brace of a function's body
-  Brace : ℕ → Work
+  -- the end of the statements of a function's body, all of which it keeps
+  Body : Stmts → Work
+  -- the closing brace of a function's body, and the type of the function's result
+  Brace : ℕ → ResultType → Work
   -- the end of a block with these objects and statements
   Close : List ℕ → Stmts → Work
   -- a function in progress, and the site of the call; the function that is entered first has none
@@ -97,63 +76,40 @@ queued (Next s more) rest = Do s ∷ queued more rest
 -- the call sites in progress, outermost first
 abbrev pub sites_of : List Work → List ℕ
 sites_of [] = []
-sites_of (Frame function None ∷ rest) = sites_of rest
 sites_of (Frame function (Some site) ∷ rest) = sites_of rest ++ site ∷ []
-sites_of (Do s ∷ rest) = sites_of rest
-sites_of (Evaluate e ∷ rest) = sites_of rest
-sites_of (Locate p ∷ rest) = sites_of rest
-sites_of (Fetch kind ∷ rest) = sites_of rest
-sites_of (Store kind ∷ rest) = sites_of rest
-sites_of (Apply op kind ∷ rest) = sites_of rest
-sites_of (Discard id ∷ rest) = sites_of rest
-sites_of (Choose id s t ∷ rest) = sites_of rest
-sites_of (Turn id e s ∷ rest) = sites_of rest
-sites_of (Deliver id ∷ rest) = sites_of rest
-sites_of (Brace id ∷ rest) = sites_of rest
-sites_of (Close bases stmts ∷ rest) = sites_of rest
+sites_of (work ∷ rest) = sites_of rest
 
--- the number of a statement that has one
-abbrev pub number_of : Stmt → Option ℕ
-number_of (Expression id e) = Some id
-number_of (Return id e) = Some id
-number_of (If id e s t) = Some id
-number_of (While id e s) = Some id
-number_of (Block bases stmts) = None
-number_of Nothing = None
-
--- The statement in which a list of work goes on: the first item that ends a statement names it.
+-- the statement in which a list of work goes on: the first item that ends a statement names it
 abbrev pub statement_in : List Work → ℕ
 statement_in [] = 0
 statement_in (Discard id ∷ rest) = id
 statement_in (Choose id s t ∷ rest) = id
+statement_in (Loop id e s ∷ rest) = id
 statement_in (Turn id e s ∷ rest) = id
 statement_in (Deliver id ∷ rest) = id
-statement_in (Brace id ∷ rest) = id
-statement_in (Do s ∷ rest) = statement_in rest
-statement_in (Evaluate e ∷ rest) = statement_in rest
-statement_in (Locate p ∷ rest) = statement_in rest
-statement_in (Fetch kind ∷ rest) = statement_in rest
-statement_in (Store kind ∷ rest) = statement_in rest
-statement_in (Apply op kind ∷ rest) = statement_in rest
-statement_in (Close bases stmts ∷ rest) = statement_in rest
-statement_in (Frame function site ∷ rest) = statement_in rest
+statement_in (Brace id result ∷ rest) = id
+statement_in (work ∷ rest) = statement_in rest
+
+-- the number of a statement that is arrived at when it begins: not that of a loop, which is arrived at by its head
+abbrev pub number_of : Stmt → Option ℕ
+number_of (Expression id e) = Some id
+number_of (Return id e) = Some id
+number_of (If id e s t) = Some id
+number_of s = None
 
 -- the statement at which a run has just arrived; the closing brace of a function is one, reached by falling off the end
 abbrev pub arrival : List Work → Option ℕ
 arrival [] = None
 arrival (Do s ∷ rest) = number_of s
-arrival (Brace id ∷ rest) = Some id
-arrival (Evaluate e ∷ rest) = None
-arrival (Locate p ∷ rest) = None
-arrival (Fetch kind ∷ rest) = None
-arrival (Store kind ∷ rest) = None
-arrival (Apply op kind ∷ rest) = None
-arrival (Discard id ∷ rest) = None
-arrival (Choose id s t ∷ rest) = None
-arrival (Turn id e s ∷ rest) = None
-arrival (Deliver id ∷ rest) = None
-arrival (Close bases stmts ∷ rest) = None
-arrival (Frame function site ∷ rest) = None
+arrival (Loop id e s ∷ rest) = Some id
+arrival (Brace id result ∷ rest) = Some id
+arrival (work ∷ rest) = None
+
+-- the objects of the scopes in progress, the innermost scope first
+abbrev pub scopes_of : List Work → List ℕ
+scopes_of [] = []
+scopes_of (Close bases stmts ∷ rest) = bases ++ scopes_of rest
+scopes_of (work ∷ rest) = scopes_of rest
 
 -- what a return leaves behind: the objects that die, the function and its call site, and the caller's work
 pub record Exit : Type 0 where
@@ -167,17 +123,7 @@ abbrev pub exit_of : List ℕ → List Work → Option Exit
 exit_of dying [] = None
 exit_of dying (Frame function site ∷ rest) = Some (record { dying = dying; function = function; site = site; rest = rest })
 exit_of dying (Close bases stmts ∷ rest) = exit_of (dying ++ bases) rest
-exit_of dying (Do s ∷ rest) = exit_of dying rest
-exit_of dying (Evaluate e ∷ rest) = exit_of dying rest
-exit_of dying (Locate p ∷ rest) = exit_of dying rest
-exit_of dying (Fetch kind ∷ rest) = exit_of dying rest
-exit_of dying (Store kind ∷ rest) = exit_of dying rest
-exit_of dying (Apply op kind ∷ rest) = exit_of dying rest
-exit_of dying (Discard id ∷ rest) = exit_of dying rest
-exit_of dying (Choose id s t ∷ rest) = exit_of dying rest
-exit_of dying (Turn id e s ∷ rest) = exit_of dying rest
-exit_of dying (Deliver id ∷ rest) = exit_of dying rest
-exit_of dying (Brace id ∷ rest) = exit_of dying rest
+exit_of dying (work ∷ rest) = exit_of dying rest
 
 -- ---- states and steps
 
@@ -191,108 +137,111 @@ pub data Outcome : Type 0 where
   Goes : State → Outcome
   Stops : Kind → ℕ → List ℕ → Outcome
 
-abbrev pub stops_in : List Work → Kind → Outcome
-stops_in control kind = Stops kind (statement_in control) (sites_of control)
+abbrev pub holding : Held → State → State
+holding h s = record s { held = h ∷ s.held }
 
-abbrev pub goes_holding : List Work → Held → List Held → Memory → Outcome
-goes_holding control h held m = Goes (record { control = control; held = h ∷ held; memory = m })
+-- the stop of a step in the statement in which the state goes on
+abbrev pub stops_in : State → Kind → Outcome
+stops_in s kind = Stops kind (statement_in s.control) (sites_of s.control)
 
 -- a value, or the stop of its step
-abbrev pub with_value : List Work → List Held → Memory → Result Value Kind → Outcome
-with_value rest held m (Ok v) = goes_holding rest (Scalar v) held m
-with_value rest held m (Err kind) = stops_in rest kind
+abbrev pub with_value : State → Result Value Kind → Outcome
+with_value s (Ok v) = Goes (holding (Usable v) s)
+with_value s (Err kind) = stops_in s kind
 
--- the result of an operator, or the stop of its step
-abbrev pub with_result : List Work → List Held → Memory → Provenance → Result ℤ Kind → Outcome
-with_result rest held m p (Ok n) = goes_holding rest (Scalar (record { number = n; provenance = p })) held m
-with_result rest held m p (Err kind) = stops_in rest kind
+-- operators use their left operand first
+abbrev pub with_operands : Layout → BinOp → IntKind → State → Result Value Kind → Result Value Kind → Outcome
+with_operands l op kind s (Err k) b = stops_in s k
+with_operands l op kind s (Ok a) (Err k) = stops_in s k
+with_operands l op kind s (Ok a) (Ok b) = with_value s (applied_to op kind l.machine a b)
 
-abbrev pub with_operands : List Work → List Held → Memory → BinOp → IntKind → Result Value Kind → Result Value Kind → Outcome
-with_operands rest held m op kind (Err k) b = stops_in rest k
-with_operands rest held m op kind (Ok a) (Err k) = stops_in rest k
-with_operands rest held m op kind (Ok a) (Ok b) =
-    with_result rest held m (provenance_after op a.provenance b.provenance) (computed op kind a.number b.number)
+abbrev pub with_address : Layout → Scalar → State → Result Value Kind → Outcome
+with_address l type s (Ok at) = with_value s (loaded l s.memory type at)
+with_address l type s (Err k) = stops_in s k
 
-abbrev pub with_address : Layout → List Work → List Held → Memory → IntKind → Result Value Kind → Outcome
-with_address l rest held m kind (Ok at) = with_value rest held m (loaded l m kind at)
-with_address l rest held m kind (Err k) = stops_in rest k
+abbrev pub with_memory : Value → State → Result Memory Kind → Outcome
+with_memory v s (Ok m) = Goes (holding (Usable v) (record s { memory = m }))
+with_memory v s (Err kind) = stops_in s kind
 
-abbrev pub with_memory : List Work → List Held → Value → Result Memory Kind → Outcome
-with_memory rest held v (Ok m) = goes_holding rest (Scalar v) held m
-with_memory rest held v (Err kind) = stops_in rest kind
+abbrev pub with_target : Layout → Scalar → State → Result Value Kind → Result Value Kind → Outcome
+with_target l type s (Err k) v = stops_in s k
+with_target l type s (Ok at) (Err k) = stops_in s k
+with_target l type s (Ok at) (Ok v) = with_memory v s (stored l s.memory type at v)
 
-abbrev pub with_target : Layout → List Work → List Held → Memory → IntKind → Result Value Kind → Result Value Kind → Outcome
-with_target l rest held m kind (Err k) v = stops_in rest k
-with_target l rest held m kind (Ok at) (Err k) = stops_in rest k
-with_target l rest held m kind (Ok at) (Ok v) = with_memory rest held v (stored l m kind at v)
+-- the truth of the held value leads on to one of two lists of work; its use may stop at the statement
+abbrev pub with_truth : ℕ → List Work → List Work → State → Result Value Kind → Outcome
+with_truth id when_true when_false s (Ok v) = Goes (record s { control = cond (truth_of v) when_true when_false })
+with_truth id when_true when_false s (Err kind) = Stops kind id (sites_of s.control)
 
--- the truth of the held value leads on to one of two lists of work; `here` is the work in which its use may stop
-abbrev pub with_truth : List Work → List Work → List Work → List Held → Memory → Result Value Kind → Outcome
-with_truth here when_true when_false held m (Ok v) = Goes (record { control = cond (truth_of v) when_true when_false; held = held; memory = m })
-with_truth here when_true when_false held m (Err kind) = stops_in here kind
-
--- a returned value can't be used where it was made from the address of an object that dies in the return (C11 6.2.4p2)
+-- what was made from the address of an object that dies in the return can't be used behind it (C11 6.2.4p2)
 abbrev pub handed : List ℕ → Held → Held
-handed dying (Scalar v) = cond (list_any (contains v.provenance) dying) (Unusable DanglingPointer) (Scalar v)
-handed dying (Unusable kind) = Unusable kind
-handed dying (Cells cells) = Cells cells
-handed dying Absent = Absent
+handed dying (Usable v) = cond (list_any (contains v.provenance) dying) (Unusable DanglingPointer) (Usable v)
+handed dying (Cells cells) = Cells (map (wither dying) cells)
+handed dying h = h
 
 -- The function's objects die, and its caller goes on with the result. After the function that was entered first there is no work.
-abbrev pub returned : Held → List Held → Memory → Option Exit → Outcome → Type 0
-returned h held m None out = ⊥
-returned h held m (Some e) out = out ≡ goes_holding e.rest (handed e.dying h) held (died e.dying m)
+abbrev pub Leaves : Held → State → Option Exit → Outcome → Type 0
+Leaves h s None out = ⊥
+Leaves h s (Some e) out = out ≡ Goes (holding (handed e.dying h) (record s { control = e.rest; memory = died e.dying s.memory }))
 
--- the value of a call whose function falls off its end (C11 6.9.1p12); the first function of a program returns 0 (5.1.2.2.3p1)
-abbrev pub fallen_at : Option ℕ → Held
-fallen_at None = Scalar (plain (pos 0))
-fallen_at (Some site) = Unusable Initialization
+-- a `return` uses a scalar, and hands on cells with their flags (C11 6.8.6.4p3)
+abbrev pub delivered : Held → Result Held Kind
+delivered (Unusable kind) = Err kind
+delivered h = Ok h
 
-abbrev pub fallen : Option Exit → Held
-fallen None = Absent
-fallen (Some e) = fallen_at e.site
+abbrev pub Delivers : ℕ → State → Result Held Kind → Outcome → Type 0
+Delivers id s (Ok h) out = Leaves h s (exit_of [] s.control) out
+Delivers id s (Err kind) out = out ≡ Stops kind id (sites_of s.control)
 
--- How the machine goes on from a first item of work, the rest, what is held, and the memory. What is missing never happens.
-abbrev pub Does : Layout → Work → List Work → List Held → Memory → Outcome → Type 0
-Does l (Do (Expression id e)) rest held m out =
-    out ≡ Goes (record { control = Evaluate e ∷ Discard id ∷ rest; held = held; memory = m })
-Does l (Do (Return id e)) rest held m out =
-    out ≡ Goes (record { control = Evaluate e ∷ Deliver id ∷ rest; held = held; memory = m })
-Does l (Do (If id e s t)) rest held m out =
-    out ≡ Goes (record { control = Evaluate e ∷ Choose id s t ∷ rest; held = held; memory = m })
-Does l (Do (While id e s)) rest held m out =
-    out ≡ Goes (record { control = Evaluate e ∷ Turn id e s ∷ rest; held = held; memory = m })
-Does l (Do (Block bases stmts)) rest held m out =
-    out ≡ Goes (record { control = queued stmts (Close bases stmts ∷ rest); held = held; memory = born l bases m })
-Does l (Do Nothing) rest held m out = out ≡ Goes (record { control = rest; held = held; memory = m })
-Does l (Evaluate (Number kind n)) rest held m out = out ≡ goes_holding rest (Scalar (plain n)) held m
-Does l (Evaluate (Load kind p)) rest held m out =
-    out ≡ Goes (record { control = Locate p ∷ Fetch kind ∷ rest; held = held; memory = m })
-Does l (Evaluate (Binary op kind a b)) rest held m out =
-    out ≡ Goes (record { control = Evaluate a ∷ Evaluate b ∷ Apply op kind ∷ rest; held = held; memory = m })
-Does l (Evaluate (Assign kind p e)) rest held m out =
-    out ≡ Goes (record { control = Locate p ∷ Evaluate e ∷ Store kind ∷ rest; held = held; memory = m })
-Does l (Locate (Variable base)) rest held m out = out ≡ goes_holding rest (Scalar (address_of l base)) held m
-Does l (Fetch kind) rest (at ∷ held) m out = out ≡ with_address l rest held m kind (used at)
-Does l (Store kind) rest (v ∷ at ∷ held) m out = out ≡ with_target l rest held m kind (used at) (used v)
-Does l (Apply op kind) rest (b ∷ a ∷ held) m out = out ≡ with_operands rest held m op kind (used a) (used b)
-Does l (Discard id) rest (h ∷ held) m out = out ≡ Goes (record { control = rest; held = held; memory = m })
-Does l (Choose id s t) rest (h ∷ held) m out =
-    out ≡ with_truth (Choose id s t ∷ rest) (Do s ∷ rest) (Do t ∷ rest) held m (used h)
-Does l (Turn id e s) rest (h ∷ held) m out =
-    out ≡ with_truth (Turn id e s ∷ rest) (Do s ∷ Do (While id e s) ∷ rest) rest held m (used h)
-Does l (Deliver id) rest (h ∷ held) m out = returned h held m (exit_of [] rest) out
-Does l (Brace id) rest held m out = returned (fallen (exit_of [] rest)) held m (exit_of [] rest) out
-Does l (Close bases stmts) rest held m out = out ≡ Goes (record { control = rest; held = held; memory = died bases m })
-Does l work rest held m out = ⊥
+-- What a call has whose function falls off its end (C11 6.9.1p12): a value that no step may use, where the function isn't void. The
+-- function that is entered first returns 0 where its result is an integer (5.1.2.2.3p1).
+abbrev pub fallen_at : Option ℕ → ResultType → Held
+fallen_at site Void = Absent
+fallen_at None (Returns (Integer kind)) = Usable (plain (pos 0))
+fallen_at site (Returns type) = Unusable Initialization
 
-abbrev pub DoesNext : Layout → List Work → List Held → Memory → Outcome → Type 0
-DoesNext l [] held m out = ⊥
-DoesNext l (work ∷ rest) held m out = Does l work rest held m out
+abbrev pub fallen : ResultType → Option Exit → Held
+fallen result None = Absent
+fallen result (Some e) = fallen_at e.site result
+
+-- How the machine goes on from an item of work, what is held, and the state without the item. What is missing never happens.
+abbrev pub Does : Layout → Work → List Held → State → Outcome → Type 0
+Does l (Do (Expression id e)) held s out = out ≡ Goes (record s { control = Evaluate e ∷ Discard id ∷ s.control })
+Does l (Do (Return id e)) held s out = out ≡ Goes (record s { control = Evaluate e ∷ Deliver id ∷ s.control })
+Does l (Do (If id e left right)) held s out = out ≡ Goes (record s { control = Evaluate e ∷ Choose id left right ∷ s.control })
+Does l (Do (While id e body)) held s out = out ≡ Goes (record s { control = Loop id e body ∷ s.control })
+Does l (Do (Block bases stmts)) held s out =
+    out ≡ Goes (record s { control = queued stmts (Close bases stmts ∷ s.control); memory = born l bases s.memory })
+Does l (Do Nothing) held s out = out ≡ Goes s
+Does l (Evaluate (Number kind n)) held s out = out ≡ Goes (holding (Usable (plain n)) s)
+Does l (Evaluate (Load type p)) held s out = out ≡ Goes (record s { control = Locate p ∷ Fetch type ∷ s.control })
+Does l (Evaluate (Binary op kind a b)) held s out =
+    out ≡ Goes (record s { control = Evaluate a ∷ Evaluate b ∷ Apply op kind ∷ s.control })
+Does l (Evaluate (Assign type p e)) held s out =
+    out ≡ Goes (record s { control = Locate p ∷ Evaluate e ∷ Store type ∷ s.control })
+Does l (Locate (Variable base)) held s out = out ≡ Goes (holding (Usable (address_of l base)) s)
+Does l (Fetch type) (at ∷ held) s out = out ≡ with_address l type (record s { held = held }) (used at)
+Does l (Store type) (v ∷ at ∷ held) s out = out ≡ with_target l type (record s { held = held }) (used at) (used v)
+Does l (Apply op kind) (b ∷ a ∷ held) s out = out ≡ with_operands l op kind (record s { held = held }) (used a) (used b)
+Does l (Discard id) (h ∷ held) s out = out ≡ Goes (record s { held = held })
+Does l (Choose id left right) (h ∷ held) s out =
+    out ≡ with_truth id (Do left ∷ s.control) (Do right ∷ s.control) (record s { held = held }) (used h)
+Does l (Loop id e body) held s out = out ≡ Goes (record s { control = Evaluate e ∷ Turn id e body ∷ s.control })
+Does l (Turn id e body) (h ∷ held) s out =
+    out ≡ with_truth id (Do body ∷ Loop id e body ∷ s.control) s.control (record s { held = held }) (used h)
+Does l (Deliver id) (h ∷ held) s out = Delivers id (record s { held = held }) (delivered h) out
+Does l (Body stmts) held s out = out ≡ Goes s
+Does l (Brace id result) held s out = Leaves (fallen result (exit_of [] s.control)) s (exit_of [] s.control) out
+Does l (Close bases stmts) held s out = out ≡ Goes (record s { memory = died bases s.memory })
+Does l work held s out = ⊥
+
+abbrev pub DoesNext : Layout → List Work → State → Outcome → Type 0
+DoesNext l [] s out = ⊥
+DoesNext l (work ∷ rest) s out = Does l work s.held (record s { control = rest }) out
 
 -- one step of the machine
 abbrev pub Step : Layout → State → Outcome → Type 0
-Step l s out = DoesNext l s.control s.held s.memory out
+Step l s out = DoesNext l s.control s out
 
 -- ---- runs
 
@@ -300,18 +249,42 @@ abbrev pub function_at : List Function → ℕ → Option Function
 function_at [] base = None
 function_at (f ∷ fs) base = cond (f.base == base) (Some f) (function_at fs base)
 
--- A function begins with its formals and the objects of its body; its closing brace stands inside the body.
+-- A function begins with the statements of its body, which its closing brace follows; its formals and the objects of its body live until
+-- it is left. The mark of its statements stands inside both, so that a jump to one of them keeps the brace and these objects.
 abbrev pub body_of : Function → Option ℕ → List Work → List Work
-body_of f site rest = queued f.body (Brace f.end ∷ Close f.formals Done ∷ Close f.locals f.body ∷ Frame f.base site ∷ rest)
+body_of f site rest =
+    queued f.body (Body f.body ∷ Brace f.end f.result ∷ Close (f.formals ++ f.locals) Done ∷ Frame f.base site ∷ rest)
 
--- where the run of a program begins: no static object is written yet, and the objects of the function that is entered first are born
-abbrev pub begins : Layout → Option Function → State → Type 0
-begins l None s = ⊥
-begins l (Some f) s =
-    s ≡ record { control = body_of f None []; held = []; memory = born l (f.formals ++ f.locals) (λ base. None) }
+-- the objects that live as long as the run (C11 6.2.4p3, 6.4.5p6)
+abbrev pub is_static : BaseSort → Bool
+is_static Static = true
+is_static Text = true
+is_static Context = true
+is_static sort = false
+
+-- what a base holds before the run: an object that lives as long as the run is zero (C11 6.7.9p10), where no initialiser has an image of it
+abbrev pub first_cells : Option Base → Option (List Cell)
+first_cells None = None
+first_cells (Some b) = cond (is_static b.sort) (Some (replicate (8 * b.size) (Bit false nowhere 0))) None
+
+-- the memory before the run; images of initialisers are written here, in this layout
+abbrev pub initial_memory : Program → Layout → Memory
+initial_memory p l = λ base. first_cells (base_at p.bases base)
+
+abbrev pub entered : Program → Layout → Option Function → Option State
+entered p l None = None
+entered p l (Some f) = Some (record {
+  control = body_of f None [];
+  held = [];
+  memory = born l (f.formals ++ f.locals) (initial_memory p l);
+})
+
+-- where the run of a program begins: the objects of the function that is entered first are born
+abbrev pub initial : Program → Layout → Option State
+initial p l = entered p l (function_at p.functions p.entry)
 
 abbrev pub IsInitial : Program → Layout → State → Type 0
-IsInitial p l s = begins l (function_at p.functions p.entry) s
+IsInitial p l s = initial p l ≡ Some s
 
 -- the states follow one another from the first one on
 abbrev pub IsRun : Layout → State → List State → Type 0

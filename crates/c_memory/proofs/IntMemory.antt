@@ -7,6 +7,8 @@ use Rattle.std.specs.Cmp.{nat_cmp_total, unsigned_tied}
 use Rattle.std.specs.List.{list_any}
 use Rattle.std.proofs.lemmas.Bool.Decides.{nat_tests}
 use Rattle.c_base.specs.declared.integer.IntKind.TheVariants.{Int}
+use Rattle.c_base.specs.declared.integer.Machine.TheVariants.{Lp64}
+use Rattle.c_memory.specs.declared.scalar.Scalar.TheVariants.{Integer}
 use Rattle.c_base.specs.declared.kind.Kind.{Kind}
 use Rattle.c_base.specs.declared.kind.Kind.TheVariants.{Initialization}
 use Rattle.c_base.specs.Integers.{bits_from, residue, fits_kind}
@@ -20,7 +22,7 @@ use Rattle.c_memory.proofs.CellBits.{length-cells_from, int_stored_loaded, unini
 -- the cells of a variable of type int: those of a number, or 32 bits that are not written
 abbrev pub int_cells : Option ℤ → List Cell
 int_cells None = replicate 32 Uninit
-int_cells (Some n) = cells_of 32 (plain n)
+int_cells (Some n) = cells_of Lp64 32 (plain n)
 
 pub length-int_cells : (content : Option ℤ) → length (int_cells content) ≡ 32
 length-int_cells None = refl
@@ -33,8 +35,9 @@ only_has base other = rw (contains-insert nat_cmp_total empty base other, contai
     or-false true = refl
     or-false false = refl
 
--- a base of a layout that is known to be a variable of type int
+-- a base of a layout of Lp64 that is known to be a variable of type int
 pub record IsInt (l : Layout) (base : ℕ) : Type 0 where
+  pub machine : l.machine ≡ Lp64
   pub size : l.size base ≡ 4
   pub writable : l.readonly base ≡ false
   pub among : list_any (λ b. b == base) l.bases ≡ true
@@ -68,27 +71,27 @@ no_offset n = omega arith
 
 abbrev pub FitsContent : Option ℤ → Type 0
 FitsContent None = Unit {0}
-FitsContent (Some n) = fits_kind Int n ≡ true
+FitsContent (Some n) = fits_kind Int Lp64 n ≡ true
 
 all_cells : (content : Option ℤ) → take 32 (int_cells content) ≡ int_cells content
 all_cells content = take_all 32 (int_cells content) (let e = length-int_cells content in omega arith)
 
-content_in : (content : Option ℤ) → FitsContent content → value_in Int (int_cells content) ≡ loaded_content content
+content_in : (content : Option ℤ) → FitsContent content → value_in Lp64 (Integer Int) (int_cells content) ≡ loaded_content content
 content_in None fits = uninit_loaded
 content_in (Some n) fits = int_stored_loaded n fits
 
 -- a load of a whole variable
 pub loaded_int : (l : Layout) (m : Memory) (base : ℕ) (content : Option ℤ) → IsInt l base → FitsContent content → m base ≡ Some (int_cells content) →
-    loaded l m Int (address_of l base) ≡ loaded_content content
+    loaded l m (Integer Int) (address_of l base) ≡ loaded_content content
 loaded_int l m base content i fits live =
-    rw (reached_self l m base (int_cells content) i live, live, no_offset (l.address base), all_cells content) (content_in content fits)
+    rw (i.machine, reached_self l m base (int_cells content) i live, live, no_offset (l.address base), all_cells content) (content_in content fits)
 
 no_rest : (old new : List Cell) → length old ≡ 32 → length new ≡ 32 → overwritten old 0 new ≡ new
 no_rest old new h k = let beyond : length old ≤ 0 + length new = omega arith in rw (drop_of_length-le old {i = 0 + length new} beyond) (append-nil new)
 
 -- a store to a whole variable
 pub stored_int : (l : Layout) (m : Memory) (base : ℕ) (content : Option ℤ) (n : ℤ) → IsInt l base → m base ≡ Some (int_cells content) →
-    stored l m Int (address_of l base) (plain n) ≡ Ok (with_base m base (Some (int_cells (Some n))))
+    stored l m (Integer Int) (address_of l base) (plain n) ≡ Ok (with_base m base (Some (int_cells (Some n))))
 stored_int l m base content n i live =
     let cells = no_rest (int_cells content) (int_cells (Some n)) (length-int_cells content) (length-int_cells (Some n)) in
-    rw (reached_self l m base (int_cells content) i live, i.writable, live, no_offset (l.address base), cells) refl
+    rw (i.machine, reached_self l m base (int_cells content) i live, i.writable, live, no_offset (l.address base), cells) refl

@@ -2,14 +2,14 @@
 use Rattle.std.specs.Prelude.{ℕ, ◌+◌, ◌-◌, ◌*◌, ◌==◌, nat_le, Bool, false, cond, ◌&&◌, List, [], ◌++◌, length, take, drop, map, replicate, ℤ, pos, negsuc, Option, None, Some, is_some, unwrap_or, Result, Ok, Err, find}
 use Rattle.std.specs.FinSet.{contains}
 use Rattle.std.specs.List.{list_any}
-use Rattle.c_base.specs.declared.integer.IntKind.{IntKind}
 use Rattle.c_base.specs.declared.kind.Kind.{Kind}
 use Rattle.c_base.specs.declared.kind.Kind.TheVariants.{MemAccess}
-use Rattle.c_base.specs.Integers.{size_of_kind, bits_of_kind}
+use Rattle.c_memory.specs.declared.scalar.Scalar.{Scalar}
+use Rattle.c_memory.specs.Scalars.{size_of_scalar, bits_of_scalar}
 use Rattle.c_memory.specs.Values.{Cell, Uninit, Value, only, cells_of, value_in, wither}
 use Rattle.c_memory.specs.Layouts.{Layout}
 
--- the cells of each live base, the bits of its bytes in ascending order, and the least bit of a byte first (little-endian)
+-- the cells of each live base: the bits of its bytes in ascending order, and of a byte the least bit first
 abbrev pub Memory : Type 0
 Memory = ℕ → Option (List Cell)
 
@@ -40,13 +40,14 @@ reached l m bytes at = find (is_reached l m bytes at) l.bases
 abbrev pub cells_at : Memory → ℕ → ℕ → ℕ → List Cell
 cells_at m base first count = take count (drop first (unwrap_or (m base) []))
 
-abbrev pub loaded_from : Layout → Memory → IntKind → Value → Option ℕ → Result Value Kind
-loaded_from l m kind at None = Err MemAccess
-loaded_from l m kind at (Some base) = value_in kind (cells_at m base (8 * offset_in l base at) (bits_of_kind kind))
+abbrev pub loaded_from : Layout → Memory → Scalar → Value → Option ℕ → Result Value Kind
+loaded_from l m type at None = Err MemAccess
+loaded_from l m type at (Some base) =
+    value_in l.machine type (cells_at m base (8 * offset_in l base at) (bits_of_scalar type l.machine))
 
 -- what a load through the address gives, or why it stops (C11 6.5.3.2p4, 6.3.2.1p2)
-abbrev pub loaded : Layout → Memory → IntKind → Value → Result Value Kind
-loaded l m kind at = loaded_from l m kind at (reached l m (size_of_kind kind) at)
+abbrev pub loaded : Layout → Memory → Scalar → Value → Result Value Kind
+loaded l m type at = loaded_from l m type at (reached l m (size_of_scalar type l.machine) at)
 
 abbrev pub overwritten : List Cell → ℕ → List Cell → List Cell
 overwritten old first new = take first old ++ new ++ drop (first + length new) old
@@ -54,15 +55,16 @@ overwritten old first new = take first old ++ new ++ drop (first + length new) o
 abbrev pub with_base : Memory → ℕ → Option (List Cell) → Memory
 with_base m base cells = λ other. cond (other == base) cells (m other)
 
-abbrev pub stored_to : Layout → Memory → IntKind → Value → Value → Option ℕ → Result Memory Kind
-stored_to l m kind at v None = Err MemAccess
-stored_to l m kind at v (Some base) =
+abbrev pub stored_to : Layout → Memory → Scalar → Value → Value → Option ℕ → Result Memory Kind
+stored_to l m type at v None = Err MemAccess
+stored_to l m type at v (Some base) =
     cond (l.readonly base) (Err MemAccess)
-    (Ok (with_base m base (Some (overwritten (unwrap_or (m base) []) (8 * offset_in l base at) (cells_of (bits_of_kind kind) v)))))
+    (Ok (with_base m base (Some (overwritten (unwrap_or (m base) []) (8 * offset_in l base at)
+    (cells_of l.machine (bits_of_scalar type l.machine) v)))))
 
 -- the memory after a store through the address, or why it stops (C11 6.5.3.2p4, 6.7.3p6)
-abbrev pub stored : Layout → Memory → IntKind → Value → Value → Result Memory Kind
-stored l m kind at v = stored_to l m kind at v (reached l m (size_of_kind kind) at)
+abbrev pub stored : Layout → Memory → Scalar → Value → Value → Result Memory Kind
+stored l m type at v = stored_to l m type at v (reached l m (size_of_scalar type l.machine) at)
 
 -- the objects are born, not written yet (C11 6.2.4p6)
 abbrev pub born : Layout → List ℕ → Memory → Memory

@@ -2,7 +2,9 @@
 use Rattle.std.specs.Prelude.{ℕ, zero, suc, ◌-◌, ◌*◌, ◌/◌, ◌^◌, ◌≤◌, ◌≡◌, ◌⊎◌, ◌==◌, Bool, IsTrue, List, [], ◌∷◌, length, take, drop, filter, Contains, ℤ, pos, ◌+ℤ◌, ◌≤ℤ◌, Option, None, Some, IsSome}
 use Rattle.std.specs.List.{AllByRecursion}
 use Rattle.std.specs.FinSet.{contains}
-use Rattle.c_base.specs.Integers.{residue, bits_from}
+use Rattle.c_base.specs.Integers.{residue, bits_from, in_byte_order}
+use Rattle.c_memory.specs.declared.scalar.Scalar.TheVariants.{Pointer}
+use Rattle.c_memory.specs.Scalars.{bits_of_scalar}
 use Rattle.c_memory.specs.Values.{Cell, Uninit, Dead, Bit, Provenance, nowhere, only}
 use Rattle.c_memory.specs.Layouts.{Layout}
 use Rattle.c_memory.specs.Memories.{Memory}
@@ -59,12 +61,17 @@ IsFlagged c Uninit = IsTrue c.uninit
 IsFlagged c Dead = IsTrue c.dead
 IsFlagged c (Bit bit provenance piece) = ⊥
 
+-- the cells are those of a number, from the machine's first byte on
+abbrev pub AreBitsOf : Layout → RowCell → Provenance → ℤ → List Cell → Type 0
+AreBitsOf l c p n cells =
+    AreBits c p (in_byte_order l.machine (bits_from (residue (2 ^ length cells) n) (length cells))) cells
+
 -- the cells of one element have a value of the part
 abbrev pub AllowsPart : Layout → RowCell → List Cell → Part → Type 0
-AllowsPart l c cells (Plain ns) =
-    (n : ℤ) × HoldsNumber ns n × AreBits c nowhere (bits_from (residue (2 ^ length cells) n) (length cells)) cells
+AllowsPart l c cells (Plain ns) = (n : ℤ) × HoldsNumber ns n × AreBitsOf l c nowhere n cells
 AllowsPart l c cells (Address base offsets) =
-    (length cells ≡ 64) × ((o : ℤ) × HoldsNumber offsets o × AreBits c (only base) (bits_from (residue (2 ^ 64) (pos (l.address base) +ℤ o)) 64) cells)
+    (length cells ≡ bits_of_scalar Pointer l.machine) ×
+    ((o : ℤ) × HoldsNumber offsets o × AreBitsOf l c (only base) (pos (l.address base) +ℤ o) cells)
 AllowsPart l c cells (Mix bases) = AllByRecursion (IsMixed c bases) cells
 
 abbrev pub AllowsSome : Layout → RowCell → List Cell → List Part → Type 0

@@ -3,10 +3,12 @@ use Rattle.std.specs.Prelude.{ℕ, suc, ◌^◌, ◌==◌, Bool, true, false, co
 use Rattle.std.specs.Ordering.{nat_cmp}
 use Rattle.std.specs.FinSet.{FinSet, empty, contains, insert, union, len}
 use Rattle.std.specs.List.{list_any}
-use Rattle.c_base.specs.declared.integer.IntKind.{IntKind}
+use Rattle.c_base.specs.declared.integer.Machine.{Machine}
 use Rattle.c_base.specs.declared.kind.Kind.{Kind}
 use Rattle.c_base.specs.declared.kind.Kind.TheVariants.{Initialization, DanglingPointer}
-use Rattle.c_base.specs.Integers.{bits_from, number_of_bits, number_in, residue}
+use Rattle.c_base.specs.Integers.{bits_from, number_of_bits, in_byte_order, residue}
+use Rattle.c_memory.specs.declared.scalar.Scalar.{Scalar}
+use Rattle.c_memory.specs.Scalars.{scalar_in}
 
 -- the bases from whose addresses a bit or a value was made
 abbrev pub Provenance : Type 0
@@ -43,8 +45,8 @@ cells_from p i [] = []
 cells_from p i (b ∷ bs) = Bit b p (piece_of p i) ∷ cells_from p (suc i) bs
 
 -- what a store of so many bits writes (C11 6.2.6.1p4)
-abbrev pub cells_of : ℕ → Value → List Cell
-cells_of bits v = cells_from v.provenance 0 (bits_from (residue (2 ^ bits) v.number) bits)
+abbrev pub cells_of : Machine → ℕ → Value → List Cell
+cells_of machine bits v = in_byte_order machine (cells_from v.provenance 0 (bits_from (residue (2 ^ bits) v.number) bits))
 
 abbrev pub is_uninit : Cell → Bool
 is_uninit Uninit = true
@@ -70,12 +72,12 @@ unfoldable pub united : List Cell → Provenance
 united [] = nowhere
 united (c ∷ cs) = union (united cs) (provenance_of c)
 
--- what a load of an integer type makes of the cells that it reads: a bit that was never written is named before one that is dead
-unfoldable pub value_in : IntKind → List Cell → Result Value Kind
-value_in kind cells =
+-- what a load of a scalar type makes of the cells that it reads: a bit that was never written is named before one that is dead
+unfoldable pub value_in : Machine → Scalar → List Cell → Result Value Kind
+value_in machine type cells =
     cond (list_any is_uninit cells) (Err Initialization)
     (cond (list_any is_dead cells) (Err DanglingPointer)
-    (Ok (record { number = number_in kind (number_of_bits (map bit_of cells)); provenance = united cells })))
+    (Ok (record { number = scalar_in type machine (number_of_bits (map bit_of (in_byte_order machine cells))); provenance = united cells })))
 
 -- the bases die: a bit that was made from the address of one of them is dead from then on
 abbrev pub wither : List ℕ → Cell → Cell

@@ -1,23 +1,25 @@
 -- Typed programs, as the meaning sees them: names are resolved to bases, statements are numbered in source order, each conversion is a
--- node, and runs of operators are nested to the left.
-use Rattle.std.specs.Prelude.{ℕ, zero, suc, ◌+◌, ◌^◌, ◌<◌, ◌≤◌, ◌≡◌, ◌≢◌, ◌⊎◌, Bool, true, false, List, [], ◌∷◌, length, ℤ, Option, None, Some}
+-- node, and runs of operators are nested to the left. A load or a store names the scalar type of its lvalue.
+use Rattle.std.specs.Prelude.{ℕ, zero, suc, ◌+◌, ◌<◌, ◌≤◌, ◌≡◌, ◌≢◌, ◌⊎◌, Bool, true, false, List, [], ◌∷◌, length, ℤ, Option, None, Some}
 use Rattle.c_base.specs.declared.integer.IntKind.{IntKind}
 use Rattle.c_base.specs.declared.operators.BinOp.{BinOp}
 use Rattle.c_prog.specs.declared.base.BaseSort.{BaseSort}
 use Rattle.c_prog.specs.declared.base.BaseSort.TheVariants.{Static, Local, Formal, Text, Func, Context}
 use Rattle.c_base.specs.declared.number.Span.{Span}
-use Rattle.c_memory.specs.Layouts.{Layout}
+use Rattle.c_base.specs.declared.integer.Machine.{Machine}
+use Rattle.c_memory.specs.declared.scalar.Scalar.{Scalar}
+use Rattle.c_memory.specs.Layouts.{Layout, last_address}
 
 mutual
   -- an lvalue
-  pub data Place : Type 0 where
-    Variable : ℕ → Place
+  pub data Lvalue : Type 0 where
+    Variable : ℕ → Lvalue
 
   pub data Expr : Type 0 where
     Number : IntKind → ℤ → Expr
-    Load : IntKind → Place → Expr
+    Load : Scalar → Lvalue → Expr
     Binary : BinOp → IntKind → Expr → Expr → Expr
-    Assign : IntKind → Place → Expr → Expr
+    Assign : Scalar → Lvalue → Expr → Expr
 
 mutual
   -- A statement with its number. A block has its objects; `Nothing` stands where an `if` has no `else`.
@@ -40,16 +42,25 @@ pub record Base : Type 0 where
   pub sort : BaseSort
   pub readonly : Bool
 
--- a function with a body: its base, its formals, the objects and the statements of its body, and the number of its closing brace
+-- what a call of a function has: no value, or a scalar
+pub data ResultType : Type 0 where
+  Void : ResultType
+  Returns : Scalar → ResultType
+
+-- A function with a body: its base, the type of its result, its formals, the objects and the statements of its body, and the number of
+-- its closing brace.
 pub record Function : Type 0 where
   pub base : ℕ
+  pub result : ResultType
   pub formals : List ℕ
   pub locals : List ℕ
   pub body : Stmts
   pub end : ℕ
 
--- The bases by number, the functions with bodies, the function that is entered first, and the places of the statements from number 1.
+-- The machine, the bases by number, the functions with bodies, the function that is entered first, and the spans of the statements from
+-- number 1.
 pub record Program : Type 0 where
+  pub machine : Machine
   pub bases : List Base
   pub functions : List Function
   pub entry : ℕ
@@ -85,11 +96,12 @@ is_shown p base = shown_base (base_at p.bases base)
 abbrev pub AreApart : Layout → ℕ → ℕ → Type 0
 AreApart l b c = (l.address b + l.size b ≤ l.address c) ⊎ (l.address c + l.size c ≤ l.address b)
 
--- A layout of the program: each base has its size and stands between 1 and 2^47, and no two bases share a byte, whether or not they live
--- at the same time.
+-- A layout of the program: each base has its size and stands between 1 and the machine's last address, and no two bases share a byte,
+-- whether or not they live at the same time.
 pub record IsLayout (p : Program) (l : Layout) : Type 0 where
+  pub machine : l.machine ≡ p.machine
   pub all : l.bases ≡ numbers_from 0 (length p.bases)
   pub known : (n : ℕ) (b : Base) → base_at p.bases n ≡ Some b → (l.size n ≡ b.size) × (l.readonly n ≡ b.readonly)
   pub low : (n : ℕ) → n < length p.bases → 1 ≤ l.address n
-  pub high : (n : ℕ) → n < length p.bases → l.address n + l.size n ≤ 2 ^ 47
+  pub high : (n : ℕ) → n < length p.bases → l.address n + l.size n ≤ last_address p.machine
   pub apart : (n k : ℕ) → n < length p.bases → k < length p.bases → n ≢ k → AreApart l n k

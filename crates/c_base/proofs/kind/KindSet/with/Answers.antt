@@ -1,7 +1,6 @@
 use Rattle.std.proofs.Common.{ℕ, ◌≡◌, ◌⊎◌, ◌↔◌, ◌*◌, ◌%◌, ◌^◌, IsTrue, ap, ◌∙◌, sym, subst, arith}
 use Rattle.std.specs.Prelude.{bit_or}
 use Rattle.std.proofs.lemmas.Nat.{one_shl}
-use Rattle.c_base.specs.declared.kind.KindSet.{KindSet}
 use Rattle.c_base.specs.KindSets.{number_of_kind, allowed}
 use Rattle.c_base.proofs.KindSets.{with_kind-allows}
 use Rattle.c_base.proofs.kind.KindSet.with.Goals as goal
