@@ -14,7 +14,7 @@ use Rattle.c_base.proofs.Bits.{length-bits_from}
 use Rattle.c_memory.proofs.IntMemory.{int_cells, length-int_cells}
 use Rattle.c_mean.specs.Evaluation.{Env, IsVariable}
 use Rattle.c_mean.proofs.Evaluation.{HasVariables, Shows}
-use Rattle.first_analysis.specs.declared.content.Range.{Range}
+use Rattle.first_analysis.specs.declared.range.Range.{Range}
 use Rattle.first_analysis.specs.declared.content.Content.{Content}
 use Rattle.first_analysis.specs.Contents.{IsWithin, HoldsNumber as HoldsInRange, Holds}
 use Rattle.eva_top.specs.Rows.{numbers_up, numbers_between, numbers_of, shown_range, entry_with, entry_of, row_from}

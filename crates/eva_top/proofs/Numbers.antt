@@ -5,7 +5,7 @@ use lib.Signed.{lt_z}
 use Rattle.std.proofs.lemmas.Bool.Decides.{nat_tests}
 use Rattle.std.proofs.lemmas.Int.{ints}
 use Rattle.c_memory.specs.Rows.{Few, Many}
-use Rattle.first_analysis.specs.declared.content.Range.{Range}
+use Rattle.first_analysis.specs.declared.range.Range.{Range}
 use Rattle.first_analysis.specs.declared.content.Content.{Content}
 use Rattle.std.specs.Fmt.{signed_decimal}
 use lib.Chars.{codes}

@@ -6,7 +6,7 @@ use Rattle.c_base.specs.declared.number.Span.{Span}
 use Rattle.first_program.specs.Source.{Program}
 use Rattle.first_program.specs.Meaning.{main_name}
 use Rattle.c_memory.specs.Rows.{Numbers, Few, Many, Plain, Entry}
-use Rattle.first_analysis.specs.declared.content.Range.{Range}
+use Rattle.first_analysis.specs.declared.range.Range.{Range}
 use Rattle.first_analysis.specs.declared.content.Content.{Content}
 use Rattle.first_analysis.specs.declared.evaluation.Kinds.{Kinds}
 use Rattle.first_analysis.specs.declared.place.Place.{Place}
