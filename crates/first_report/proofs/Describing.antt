@@ -1,65 +1,32 @@
 -- The row of a statement describes the memories of the runs.
 use Rattle.std.proofs.Common.{◌≡◌, ◌≢◌, ℕ, zero, suc, ◌+◌, ◌*◌, ◌/◌, ◌^◌, ◌<◌, ◌≤◌, ◌==◌, Bool, true, false, IsTrue, cond, List, [], ◌∷◌, length, get_or, take, drop, replicate, Option, None, Some, ℤ, refl, sym, ap, ◌∙◌, inl, inr, arith, take_all, drop_of_length-le}
-use Rattle.std.specs.Prelude.{pos, negsuc, nat_abs, ◌+ℤ◌, ◌-ℤ◌, ◌≤ℤ◌, ◌⊎◌, int_lt, nat_lt, IsSome, nat_le, Contains}
+use Rattle.std.specs.Prelude.{◌≤ℤ◌, IsSome, nat_le}
 use Rattle.std.specs.List.{AllByRecursion}
 use Rattle.std.proofs.lemmas.Bool.Decides.{nat_tests}
-use Rattle.std.proofs.lemmas.Int.{ints}
 use Rattle.c_base.proofs.Tests.{other_test}
 use Rattle.c_base.specs.Integers.{bits_from, residue}
 use Rattle.c_memory.specs.Values.{Cell, Uninit, nowhere, plain, cells_from, cells_of}
 use Rattle.c_memory.specs.Layouts.{Layout}
 use Rattle.c_memory.specs.Memories.{Memory}
-use Rattle.c_memory.specs.Rows.{Numbers, Few, Many, HoldsNumber, Plain, RowCell, AreBits, IsFlagged, AllowsPart, AllowsSome, EachElement, AllowsStretch, DescribesEntry, AreRanges, entries_of, Describes}
+use Rattle.c_base.specs.declared.integer.Machine.TheVariants.{Lp64}
+use Rattle.c_memory.specs.Rows.{Numbers, HoldsNumber, Plain, RowCell, Entry, AreBits, IsFlagged, AllowsPart, AllowsSome, EachElement, AllowsStretch, DescribesEntry, AreRanges, entries_of, Describes}
 use Rattle.c_base.proofs.Bits.{length-bits_from}
 use Rattle.c_memory.proofs.IntMemory.{int_cells, length-int_cells}
 use Rattle.c_mean.specs.Evaluation.{Env, IsVariable}
 use Rattle.c_mean.proofs.Evaluation.{HasVariables, Shows}
-use Rattle.first_analysis.specs.declared.range.Range.{Range}
-use Rattle.first_analysis.specs.declared.content.Content.{Content}
-use Rattle.first_analysis.specs.Contents.{IsWithin, HoldsNumber as HoldsInRange, Holds}
-use Rattle.eva_top.specs.Rows.{numbers_up, numbers_between, numbers_of, shown_range, entry_with, entry_of, row_from}
+use Rattle.eva_report.specs.Report.{ReportEntry}
+use Rattle.eva_report.specs.Meaning.{meaning_of}
+use Rattle.eva_report.proofs.Numbers.{range_holds}
+use Rattle.first_report.specs.Rows.{Shown, numbers_in, entry_for, row_from}
 
--- ---- numbers
-
-length-up : (low : ℤ) (count : ℕ) → length (numbers_up low count) ≡ count
-unfolding numbers_up
-length-up low zero = refl
-length-up low (suc count) = ap suc (length-up (low +ℤ pos 1) count)
-
-up_at : (low d : ℤ) (count k : ℕ) → k < count → get_or (numbers_up low count) k d ≡ (low +ℤ pos k)
-unfolding numbers_up
-up_at low d zero k h = absurd (omega arith)
-up_at low d (suc count) zero h = omega (arith, ints)
-up_at low d (suc count) (suc k) h = up_at (low +ℤ pos 1) d count k (omega arith) ∙ omega (arith, ints)
-
-residue_one : (n : ℤ) → residue 1 n ≡ 0
-residue_one (pos n) = omega arith
-residue_one (negsuc n) = omega arith
-
-pos_abs : (z : ℤ) → pos 0 ≤ℤ z → pos (nat_abs z) ≡ z
-pos_abs (pos n) h = refl
-pos_abs (negsuc n) h = absurd (omega (arith, ints))
-
-gap : (n low : ℤ) → low ≤ℤ n → pos (nat_abs (n -ℤ low)) ≡ (n -ℤ low)
-gap n low h = pos_abs (n -ℤ low) (omega (arith, ints))
-
--- a number between the bounds is one of those that are shown
-shown_by_width : (low high n w : ℤ) → w ≡ (high -ℤ low) → low ≤ℤ n → n ≤ℤ high → HoldsNumber (numbers_between low high w) n
-unfolding numbers_between
-shown_by_width low high n (negsuc k) e above below = absurd (omega (arith, ints))
-shown_by_width low high n (pos width) e above below = by_test (nat_lt 7 width) refl
+-- what a variable holds is what is shown of it
+abbrev pub Shows : Shown → Option ℤ → Type 0
+Shows s None = IsTrue s.uninit
+Shows s (Some n) = ShowsNumber s.bounds n
   where
-    by_test : (t : Bool) → nat_lt 7 width ≡ t → HoldsNumber (cond t (Many low high 0 1) (Few (numbers_up low (suc width)))) n
-    by_test true f = (above, below, residue_one n)
-    by_test false f = (
-      nat_abs (n -ℤ low),
-      rw (length-up low (suc width)) (omega (arith, ints, gap n low above)),
-      up_at low n (suc width) (nat_abs (n -ℤ low)) (omega (arith, ints, gap n low above)) ∙ omega (arith, ints, gap n low above),
-    )
-
-pub number_shown : (r : Range) (n : ℤ) → IsWithin r n → HoldsNumber (numbers_of r) n
-unfolding numbers_of
-number_shown r n h = shown_by_width r.low r.high n (r.high -ℤ r.low) refl h.above h.below
+    abbrev ShowsNumber : Option (ℤ × ℤ) → ℤ → Type 0
+    ShowsNumber None n = ⊥
+    ShowsNumber (Some b) n = (b.0 ≤ℤ n) × (n ≤ℤ b.1)
 
 -- ---- cells
 
