@@ -5,6 +5,11 @@ use Rattle.c_memory.specs.Layouts.{Layout}
 use Rattle.c_memory.specs.Memories.{Memory}
 use Rattle.c_mean.specs.Machine.{Held, State, Outcome, Goes, Stops, Step, IsRun, last_of, arrival, sites_of}
 
+-- what each step keeps holds at the end of a run
+pub kept_along : (P : State → Type 0) (l : Layout) → ((s t : State) → P s → Step l s (Goes t) → P t) → (s : State) (ts : List State) → P s → IsRun l s ts → P (last_of s ts)
+kept_along P l kept s [] h run = h
+kept_along P l kept s (t ∷ ts) h run = kept_along P l kept t ts (kept s t h run.0) run.1
+
 module _ (l : Layout) (Covered : ℕ → List ℕ → Memory → Type 0) (Alarmed : Kind → ℕ → List ℕ → Type 0) where
   -- a memory at a statement is covered, and a stop has its alarm
   pub record Meets (s : State) : Type 0 where

@@ -1,5 +1,5 @@
 -- The meaning of programs: a machine that goes through a list of work (C11 5.1.2.3, 6.5, 6.8), from left to right.
-use Rattle.std.specs.Prelude.{ℕ, ◌≡◌, ◌==◌, ◌*◌, Bool, true, false, cond, List, [], ◌∷◌, ◌++◌, map, replicate, pos, Option, None, Some, Result, Ok, Err}
+use Rattle.std.specs.Prelude.{ℕ, ◌≡◌, ◌*◌, false, cond, List, [], ◌∷◌, ◌++◌, map, replicate, pos, Option, None, Some, Result, Ok, Err}
 use Rattle.std.specs.List.{list_any}
 use Rattle.std.specs.FinSet.{contains}
 use Rattle.c_base.specs.declared.integer.IntKind.{IntKind}
@@ -12,9 +12,7 @@ use Rattle.c_memory.specs.Values.{Value, plain, nowhere, Cell, Bit, wither}
 use Rattle.c_memory.specs.Layouts.{Layout}
 use Rattle.c_memory.specs.Memories.{Memory, address_of, loaded, stored, born, died}
 use Rattle.c_memory.specs.Operations.{truth_of, applied_to}
-use Rattle.c_prog.specs.declared.base.BaseSort.{BaseSort}
-use Rattle.c_prog.specs.declared.base.BaseSort.TheVariants.{Static, Text, Context}
-use Rattle.c_prog.specs.Syntax.{Lvalue, Variable, Expr, Number, Load, Binary, Assign, Stmt, Expression, Return, If, While, Block, Nothing, Stmts, Done, Next, ResultType, Void, Returns, Base, base_at, Function, Program}
+use Rattle.c_prog.specs.Syntax.{Lvalue, Variable, Expr, Number, Load, Binary, Assign, Stmt, Expression, Return, If, While, Block, Nothing, Stmts, Done, Next, ResultType, Void, Returns, Base, base_at, is_static, Function, function_at, Program}
 
 -- ---- what is held while expressions are evaluated
 
@@ -245,22 +243,11 @@ Step l s out = DoesNext l s.control s out
 
 -- ---- runs
 
-abbrev pub function_at : List Function → ℕ → Option Function
-function_at [] base = None
-function_at (f ∷ fs) base = cond (f.base == base) (Some f) (function_at fs base)
-
 -- A function begins with the statements of its body, which its closing brace follows; its formals and the objects of its body live until
 -- it is left. The mark of its statements stands inside both, so that a jump to one of them keeps the brace and these objects.
 abbrev pub body_of : Function → Option ℕ → List Work → List Work
 body_of f site rest =
     queued f.body (Body f.body ∷ Brace f.end f.result ∷ Close (f.formals ++ f.locals) Done ∷ Frame f.base site ∷ rest)
-
--- the objects that live as long as the run (C11 6.2.4p3, 6.4.5p6)
-abbrev pub is_static : BaseSort → Bool
-is_static Static = true
-is_static Text = true
-is_static Context = true
-is_static sort = false
 
 -- what a base holds before the run: an object that lives as long as the run is zero (C11 6.7.9p10), where no initialiser has an image of it
 abbrev pub first_cells : Option Base → Option (List Cell)

@@ -1,6 +1,6 @@
 -- Typed programs, as the meaning sees them: names are resolved to bases, statements are numbered in source order, each conversion is a
 -- node, and runs of operators are nested to the left. A load or a store names the scalar type of its lvalue.
-use Rattle.std.specs.Prelude.{ℕ, zero, suc, ◌+◌, ◌<◌, ◌≤◌, ◌≡◌, ◌≢◌, ◌⊎◌, Bool, true, false, List, [], ◌∷◌, length, ℤ, Option, None, Some}
+use Rattle.std.specs.Prelude.{ℕ, zero, suc, ◌+◌, ◌<◌, ◌≤◌, ◌≡◌, ◌≢◌, ◌⊎◌, ◌==◌, cond, Bool, true, false, List, [], ◌∷◌, length, ℤ, Option, None, Some}
 use Rattle.c_base.specs.declared.integer.IntKind.{IntKind}
 use Rattle.c_base.specs.declared.operators.BinOp.{BinOp}
 use Rattle.c_prog.specs.declared.base.BaseSort.{BaseSort}
@@ -70,6 +70,22 @@ abbrev pub base_at : List Base → ℕ → Option Base
 base_at [] n = None
 base_at (b ∷ bs) zero = Some b
 base_at (b ∷ bs) (suc n) = base_at bs n
+
+-- a function with a body, by its base
+abbrev pub function_at : List Function → ℕ → Option Function
+function_at [] base = None
+function_at (f ∷ fs) base = cond (f.base == base) (Some f) (function_at fs base)
+
+-- the objects that live as long as a run (C11 6.2.4p3, 6.4.5p6)
+abbrev pub is_static : BaseSort → Bool
+is_static Static = true
+is_static Text = true
+is_static Context = true
+is_static sort = false
+
+abbrev pub static_base : Option Base → Bool
+static_base None = false
+static_base (Some b) = is_static b.sort
 
 -- the first `count` numbers from n
 abbrev pub numbers_from : ℕ → ℕ → List ℕ
