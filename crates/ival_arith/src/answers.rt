@@ -9,10 +9,10 @@ ghost use Rattle.ival_arith.specs.Answers.{typed, binary_value, binary_kinds, ne
 ghost use Rattle.ival_arith.specs.Promises.{InType, Gives, GivesNegated, IsArithmetic, IsSharp, AllInRange, AllNegatedInRange};
 
 use crate::arithmetic::value;
-use crate::format::{Format, format_of, power};
 use crate::kinds::{holds_number, kind_set, kinds};
 use crate::pieces::{Change, changed, clipped};
 use crate::values::residues;
+use c_base::format::{Format, format_of, power};
 use c_base::integer::{IntKind, Machine};
 use c_base::kind::{Kind, KindSet};
 use c_base::operators::BinOp;

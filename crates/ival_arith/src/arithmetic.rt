@@ -11,12 +11,12 @@ ghost use Rattle.ival_arith.specs.Promises.{InType};
 
 use crate::divisions::{Part, part_lines};
 use crate::divisors::numbers_divided;
-use crate::format::{Format, format_of, power};
 use crate::pieces::{Change, changed, clipped};
 use crate::products::{extent, is_natural, lines, spread};
 use crate::runs::{all_repeat, first_products, least_factor, near_products};
 use crate::sums::sums;
 use crate::values::{few_results, residues};
+use c_base::format::{Format, format_of, power};
 use c_base::integer::{IntKind, Machine};
 use c_base::kind::{Kind, KindSet};
 use c_base::operators::BinOp;

@@ -8,9 +8,9 @@ ghost use Rattle.ival_arith.specs.Pieces.{none, all_changed};
 ghost use Rattle.ival_arith.specs.Values.{natural_part, parts, is_minus_one, dividends, oriented, part_line, part_lines};
 
 use crate::floors::floored;
-use crate::format::Format;
 use crate::pieces::{Change, changed, clipped, join};
 use crate::values::residues;
+use c_base::format::Format;
 use ival_core::Ival;
 
 const LIMIT: i128 = 0x100_0000_0000_0000_0000_0000_0000_0000;

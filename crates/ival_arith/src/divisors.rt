@@ -12,10 +12,10 @@ ghost use Rattle.ival_arith.specs.Promises.{InType};
 ghost use Rattle.ival_arith.specs.Values.{op_of, is_far, far_part, with_far, same_quotients, same_results, few_alone, going_on, number_at, with_outcome, with_divisors, number_divided, numbers_divided};
 
 use crate::divisions::Part;
-use crate::format::Format;
 use crate::kinds::either;
 use crate::pieces::{clipped, with};
 use crate::values::{with_result, with_row};
+use c_base::format::Format;
 use c_base::operators::{BinOp, apply_binary};
 use ival_core::{Ival, Progression, Shape};
 

@@ -8,8 +8,8 @@ ghost use Rattle.ival_core.specs.Views.{bounds_of};
 ghost use Rattle.ival_arith.specs.Kinds.{holds_number, holds_some, is_out, sums_leave, products_leave, overflows, divides_by_zero, kind_set, kinds, IsShort};
 ghost use Rattle.ival_arith.specs.Promises.{InType};
 
-use crate::format::Format;
 use crate::pieces::{Change, changed};
+use c_base::format::Format;
 use c_base::kind::{Kind, KindSet};
 use c_base::operators::BinOp;
 use ival_core::Ival;

@@ -10,7 +10,6 @@ mod divisions;
 mod divisors;
 mod exact;
 mod floors;
-mod format;
 mod kinds;
 mod pieces;
 mod products;
@@ -23,13 +22,9 @@ mod values;
 pub use answers::{Answer, binary, negate, typed};
 pub use exact::{exact_add, exact_sub};
 pub use floors::floored;
-pub use format::{Format, format_of, power};
 pub use kinds::holds_number;
 pub use pieces::{Change, changed, clipped, join, with};
 pub use products::product_line;
 pub use relations::{Truths, compare};
 pub use terms::{exact_div, exact_mul, exact_rem};
 pub use values::{few_results, residue, residues};
-
-#[cfg(test)]
-mod tests;

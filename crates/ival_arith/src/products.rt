@@ -8,8 +8,8 @@ ghost use Rattle.ival_arith.specs.Pieces.{none, run_negated};
 ghost use Rattle.ival_arith.specs.Values.{product_line, line, lines_onto, multiplied, spread, extent, is_natural};
 ghost use Rattle.ival_core.specs.Views.{bounds_of};
 
-use crate::format::{Format, power};
 use crate::pieces::{Change, changed, clipped, cycle, join, run_negated};
+use c_base::format::{Format, power};
 use ival_core::{Ival, Progression, Shape, run_from};
 
 /// The numbers of a run, or these negated.

@@ -11,12 +11,12 @@ ghost use Rattle.ival_arith.specs.Pieces.{gathered};
 ghost use Rattle.ival_arith.specs.Sums.{firsts};
 
 use crate::arithmetic::both;
-use crate::format::{Format, power};
 use crate::kinds::holds_number;
 use crate::pieces::{clipped, join};
 use crate::products::{line, lines_onto};
 use crate::sums::eight;
 use crate::values::few_results;
+use c_base::format::{Format, power};
 use c_base::operators::BinOp;
 use ival_core::{Ival, Progression, Shape};
 

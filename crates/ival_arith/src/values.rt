@@ -9,9 +9,9 @@ ghost use Rattle.ival_core.specs.Joined.{with_numbers};
 ghost use Rattle.ival_arith.specs.Pieces.{run_residues, gathered};
 ghost use Rattle.ival_arith.specs.Values.{kept, row, rows, residues, added};
 
-use crate::format::{Format, power};
 use crate::pieces::{cycle, with};
 use crate::sums::sums;
+use c_base::format::{Format, power};
 use c_base::kind::Kind;
 use c_base::operators::{BinOp, apply_binary};
 use ival_core::{Ival, Progression, Shape};

@@ -7,6 +7,7 @@ pub mod Sizes
 pub mod BitBounds
 pub mod Shifting
 pub mod Operating
+pub mod Counted
 pub mod ShiftKinds
 pub mod BitSets
 pub mod SpanSets

@@ -55,8 +55,8 @@ shift_kind fails = cond fails (with_kind no_kinds Shift) no_kinds
 
 abbrev pub shift_value : BinOp → IntKind → Machine → Shape → Shape → Shape
 shift_value op k m s t =
-    shifts op (is_signed k) (width_of k m) (typed (is_signed k) (width_of k m) s) (typed (is_signed k) (width_of k m) t) (width_of k m)
+    shifts op (is_signed k) (width_of k m) (typed (is_signed k) (width_of k m) s) t (width_of k m)
 
 abbrev pub shift_kinds : BinOp → IntKind → Machine → Shape → Shape → KindSet
 shift_kinds op k m s t =
-    shift_kind (shift_fails op (is_signed k) (width_of k m) (bounds_of (typed (is_signed k) (width_of k m) s)) (bounds_of (typed (is_signed k) (width_of k m) t)))
+    shift_kind (shift_fails op (is_signed k) (width_of k m) (bounds_of (typed (is_signed k) (width_of k m) s)) (bounds_of t))

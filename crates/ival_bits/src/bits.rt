@@ -13,11 +13,12 @@ ghost use Rattle.ival_bits.specs.Bitwise.{low_bits, is_clear, is_apart, long_and
 
 use crate::masks::and_by;
 use crate::spans::{bounds_value, sized};
+use c_base::format::{Format, format_of, power};
 use c_base::integer::{IntKind, Machine};
 use c_base::kind::{Kind, KindSet};
 use c_base::operators::BinOp;
 use ival_arith::sums::sums;
-use ival_arith::{Answer, Format, few_results, format_of, power, residues, typed};
+use ival_arith::{Answer, few_results, residues, typed};
 use ival_core::{Ival, Shape};
 
 const LIMIT: i128 = 0x100_0000_0000_0000_0000_0000_0000_0000;

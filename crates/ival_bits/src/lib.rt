@@ -15,6 +15,3 @@ pub use bits::bitwise;
 pub use parts::{concat, extract};
 pub use shifts::shift;
 pub use wraps::wrap;
-
-#[cfg(test)]
-mod tests;

@@ -8,7 +8,8 @@ ghost use Rattle.ival_arith.specs.Promises.{InType};
 ghost use Rattle.ival_bits.specs.Masks.{mask_of, turned, cleared, by_mask, and_by};
 
 use crate::spans::length_of;
-use ival_arith::{Change, Format, changed, floored, power, residues};
+use c_base::format::{Format, power};
+use ival_arith::{Change, changed, floored, residues};
 use ival_core::Ival;
 
 /// How many bits a mask of the lowest bits has, if the number is one.

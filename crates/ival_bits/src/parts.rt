@@ -7,8 +7,9 @@ ghost use Rattle.ival_core.specs.Ivals.{Holds, IsOnly};
 ghost use Rattle.ival_arith.specs.Pieces.{gathered};
 ghost use Rattle.ival_bits.specs.Parts.{part, extracted, glued, concatenated};
 
+use c_base::format::power;
 use ival_arith::sums::sums;
-use ival_arith::{Change, changed, floored, power, residues};
+use ival_arith::{Change, changed, floored, residues};
 use ival_core::Ival;
 
 const LIMIT: i128 = 0x100_0000_0000_0000_0000_0000_0000_0000;

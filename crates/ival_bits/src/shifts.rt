@@ -6,18 +6,16 @@ ghost use Rattle.c_base.specs.KindSets.{allowed};
 ghost use Rattle.ival_core.specs.Sets.{HoldsNine};
 ghost use Rattle.ival_core.specs.Ivals.{Holds};
 ghost use Rattle.ival_core.specs.Views.{bounds_of};
-ghost use Rattle.ival_arith.specs.Promises.{InType, Gives};
-ghost use Rattle.ival_bits.specs.Promises.{IsShift};
+ghost use Rattle.ival_arith.specs.Promises.{InType};
+ghost use Rattle.ival_bits.specs.Promises.{IsShift, GivesShifted};
 ghost use Rattle.ival_bits.specs.Shifts.{kept_left, shifted_by, shifts, miscounts, left_fails, shift_fails, shift_kind, shift_value, shift_kinds};
 
 use crate::wraps::{last, whole};
+use c_base::format::{Format, format_of, power};
 use c_base::integer::{IntKind, Machine};
 use c_base::kind::{Kind, KindSet};
 use c_base::operators::BinOp;
-use ival_arith::{
-    Answer, Change, Format, changed, clipped, floored, format_of, holds_number, join, power,
-    residues, typed,
-};
+use ival_arith::{Answer, Change, changed, clipped, floored, holds_number, join, residues, typed};
 use ival_core::Ival;
 
 /// What a left shift keeps of the numbers of a set: those that have a result, or of each the bits that stay in the type.
@@ -113,20 +111,20 @@ fn shift_kind(fails: bool) -> KindSet
     }
 }
 
-/// `<<` and `>>` on numbers of the type `k` (C11 6.5.7). Other numbers have no results.
+/// `<<` and `>>` on numbers of the type `k` by counts of any type (C11 6.5.7). Other left numbers have no results.
 pub fn shift(op: BinOp, k: IntKind, m: Machine, a: &Ival, b: &Ival) -> Answer
     requires { IsShift op }
     ensures value { result.value.shape ≡ shift_value op k m a.now.shape b.now.shape }
     ensures kind_set { result.kinds ≡ shift_kinds op k m a.now.shape b.now.shape }
-    ensures holds { (n : ℤ) → Gives op k m a.now b.now (Ok n) → Holds result.value n }
-    ensures kinds { (kind : Kind) → IsTrue (allowed result.kinds kind) ↔ Gives op k m a.now b.now (Err kind) }
-    ensures exact { (HoldsNine (λ n. Gives op k m a.now b.now (Ok n)) → ⊥) → (n : ℤ) → Holds result.value n → Gives op k m a.now b.now (Ok n) }
+    ensures holds { (n : ℤ) → GivesShifted op k m a.now b.now (Ok n) → Holds result.value n }
+    ensures kinds { (kind : Kind) → IsTrue (allowed result.kinds kind) ↔ GivesShifted op k m a.now b.now (Err kind) }
+    ensures exact { (HoldsNine (λ n. GivesShifted op k m a.now b.now (Ok n)) → ⊥) → (n : ℤ)
+        → Holds result.value n → GivesShifted op k m a.now b.now (Ok n) }
 {
     let format = format_of(k, m);
     let left = typed(format, a);
-    let right = typed(format, b);
     Answer {
-        value: shifts(op, format, &left, &right),
-        kinds: shift_kind(shift_fails(op, format, &left, &right)),
+        value: shifts(op, format, &left, b),
+        kinds: shift_kind(shift_fails(op, format, &left, b)),
     }
 }

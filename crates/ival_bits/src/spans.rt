@@ -9,8 +9,8 @@ ghost use Rattle.ival_arith.specs.Promises.{InType};
 ghost use Rattle.ival_bits.specs.Spans.{IsEnds, Within, length_of, sized, ends_sized, span, and_span, or_span, spanned, bounds_value};
 
 use crate::wraps::{last, negative};
+use c_base::format::Format;
 use c_base::operators::BinOp;
-use ival_arith::Format;
 use ival_core::{Ival, run_from};
 
 /// The least and the greatest number of a set.

@@ -8,7 +8,8 @@ ghost use Rattle.ival_core.specs.Ivals.{Holds, IsOnly};
 ghost use Rattle.ival_arith.specs.Pieces.{all_changed, clipped};
 ghost use Rattle.ival_bits.specs.Wraps.{resigned, run_wrapped, wrapped};
 
-use ival_arith::{Change, changed, clipped, join, power, residue, residues};
+use c_base::format::power;
+use ival_arith::{Change, changed, clipped, join, residue, residues};
 use ival_core::{Ival, Progression, Shape, run_from};
 
 /// The number as one of the type.

@@ -9,8 +9,6 @@ mod hull;
 mod lattice;
 mod meeting;
 mod steps;
-#[cfg(test)]
-mod tests;
 mod value;
 mod widening;
 

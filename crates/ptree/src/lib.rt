@@ -170,6 +170,3 @@ pub fn set_and_get<V: Copy>(
     let new = old.set(alloc, key, value)?;
     Ok((new.get(key).copied(), old.get(key).copied()))
 }
-
-#[cfg(test)]
-mod tests;

@@ -3,6 +3,7 @@ use Rattle.std.proofs.lemmas.Int.{to_z-of_z}
 use Rattle.ival_core.proofs.Runs.{number_fits}
 use Rattle.ival_arith.specs.Values.{residues}
 use Rattle.ival_arith.proofs.TableCodes.{added_signed, added_unsigned, sums_ends}
+use Rattle.ival_arith.proofs.Words.{operand_number}
 use Rattle.ival_arith.proofs.arithmetic.added.Goals as goal
 
 pub returns-then-format : goal.returns-then-format
@@ -10,8 +11,8 @@ returns-then-format c =
     let o = c.args.format in
     let a = c.args.a.now.shape in
     let b = c.args.b.now.shape in
-    let f = number_fits c.least.result c.least.ensures.number in
-    let g = number_fits c.greatest.result c.greatest.ensures.number in
+    let f = number_fits c.least.result (operand_number c.least.result c.least.ensures.within) in
+    let g = number_fits c.greatest.result (operand_number c.greatest.result c.greatest.ensures.within) in
     added_signed o.signed o.width a b c.sums.result.shape c.if-format.true ((simp to_z-of_z at c.sums.ensures) ∙ sums_ends _ _ _ _ a b c.least.ensures.value c.greatest.ensures.value)
 
 pub returns-else-format : goal.returns-else-format

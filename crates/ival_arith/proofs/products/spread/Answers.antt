@@ -8,7 +8,7 @@ use Rattle.ival_arith.proofs.products.spread.Goals as goal
 
 pub run_from-requires-clause-first : goal.run_from-requires-clause-first
 run_from-requires-clause-first c =
-    let a = c.least.ensures.number.least in let b = c.least.ensures.below in let d = c.low_of.ensures.below in
+    let a = c.least.ensures.within.least in let b = c.least.ensures.below in let d = c.low_of.ensures.below in
     let f : FitsSigned w128 c.low_of.result = record { sfits = c.low_of.type_inv } in
     let g : FitsSigned w128 c.least.result = record { sfits = c.least.type_inv } in
     let h : FitsSigned w128 c.max.result = record { sfits = c.max.type_inv } in

@@ -1,6 +1,8 @@
 use Rattle.std.proofs.Common.{[], slice_index_or, pos, FitsSigned, ap, ◌∙◌, rules}
 use Rattle.std.specs.Int.{w128}
 use Rattle.std.proofs.lemmas.Int.{to_z-of_z}
+use Rattle.c_base.specs.Integers.{FitsKind}
+use Rattle.c_base.proofs.Counts.{on_right}
 use Rattle.ival_core.specs.Joined.{with_numbers}
 use Rattle.ival_core.proofs.Ends.{Among-at}
 use Rattle.ival_arith.specs.Values.{kept, row}
@@ -11,7 +13,9 @@ use Rattle.ival_arith.proofs.values.with_row.Goals as goal
 pub apply_binary-outcome-requires-clause-right : goal.apply_binary-outcome-requires-clause-right
 apply_binary-outcome-requires-clause-right c =
     let f : FitsSigned w128 (slice_index_or c.args.others.now c.loop-y.y-index (pos 0)) = search rules in
-    simp to_z-of_z (c.requires.right (slice_index_or c.args.others.now c.loop-y.y-index (pos 0)) (Among-at c.args.others.now c.loop-y.y-index (pos 0) c.loop-y-test.true))
+    simp to_z-of_z
+    (on_right c.args.op (λ n. FitsKind c.args.format.kind c.args.format.machine n) (slice_index_or c.args.others.now c.loop-y.y-index (pos 0))
+    (c.requires.right (slice_index_or c.args.others.now c.loop-y.y-index (pos 0)) (Among-at c.args.others.now c.loop-y.y-index (pos 0) c.loop-y-test.true)))
 
 pub with_result-all-requires : goal.with_result-all-requires
 with_result-all-requires c =
