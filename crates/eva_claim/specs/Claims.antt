@@ -6,6 +6,8 @@ use Rattle.c_memory.specs.Layouts.{Layout}
 use Rattle.c_memory.specs.Memories.{Memory}
 use Rattle.c_memory.specs.Rows.{Describes}
 use Rattle.c_prog.specs.Syntax.{Program, Function, Base, base_at, is_shown, numbers_from, IsLayout}
+use Rattle.c_prog.specs.Valid.{IsValid}
+use Rattle.c_prog.specs.Packing.{HasRoom}
 use Rattle.c_mean.specs.Machine.{State, Stops, Step, IsInitial, IsRun, last_of, arrival, sites_of}
 use Rattle.eva_report.specs.Report.{ReportBase, ReportPart, ReportEntry, ReportString, ReportStmt, ReportAlarm, Report, report_text}
 use Rattle.eva_report.specs.Grammar.{IsReport}
@@ -82,8 +84,11 @@ pub record IsClaimed (p : Program) (r : Report) : Type 0 where
   pub hyps : r.hyps ≡ []
   pub rules : IsReport r
 
--- the text is that of such a report, which has an alarm exactly where the flag says so
+-- The text is that of such a report, which has an alarm exactly where the flag says so. The program is valid and has room in memory, so
+-- that it has layouts, starts in each of them, and no run of it gets stuck.
 pub record IsReportOf (p : Program) (alarmed : Bool) (text : List ℕ) : Type 0 where
+  pub valid : IsValid p
+  pub room : HasRoom p
   pub report : Report
   pub claimed : IsClaimed p report
   pub is_text : text ≡ report_text report

@@ -8,7 +8,8 @@ use Rattle.c_memory.specs.Layouts.{Layout}
 use Rattle.c_memory.specs.Memories.{Memory, born}
 use Rattle.c_prog.specs.Syntax.{base_at, numbers_from, IsLayout}
 use Rattle.first_program.specs.Meaning.{meaning_of, variable_base}
-use Rattle.c_mean.specs.Evaluation.{Env, IsVariable}
+use Rattle.c_mean.specs.Evaluation.{IsVariable}
+use Rattle.c_mean.specs.Machine.{initial_memory, first_cells}
 use Rattle.c_mean.proofs.Evaluation.{HasVariables, Shows}
 
 or_true : (a b : Bool) → b ≡ true → (a || b) ≡ true
@@ -54,9 +55,10 @@ base_known p (suc i) v =
 
 pub has_variables : (p : Program) (l : Layout) → IsLayout (meaning_of p) l → HasVariables l (length p.variables)
 has_variables p l is = record {
+  machine = is.machine;
   each = λ base v.
       let known = is.known base (variable_base (get_or p.variables (base - 1) [])) (base_known p base v) in
-      record { size = known.0; writable = known.1; among = among base v };
+      record { machine = is.machine; size = known.0; writable = known.1; among = among base v };
 }
   where
     among : (base : ℕ) → IsVariable (length p.variables) base → list_any (λ b. b == base) l.bases ≡ true
@@ -67,19 +69,23 @@ has_variables p l is = record {
 
 -- ---- the first memory
 
-pub nothing_yet : Env
-nothing_yet = λ base. None
+-- no object of the language lives before the run
+pub nothing_before : (p : Program) (l : Layout) (base : ℕ) → initial_memory (meaning_of p) l base ≡ None
+nothing_before p l zero = refl
+nothing_before p l (suc i) = none p.variables i
+  where
+    none : (vs : List (List ℕ)) (i : ℕ) → first_cells (base_at (map variable_base vs) i) ≡ None
+    none [] i = refl
+    none (v ∷ vs) zero = refl
+    none (v ∷ vs) (suc i) = none vs i
 
-abbrev pub no_memory : Memory
-no_memory = λ base. None
-
-pub shows_born : (l : Layout) (count : ℕ) → HasVariables l count → Shows count (λ base. None) (born l (numbers_from 1 count) no_memory)
-shows_born l count has = record {
+pub shows_born : (l : Layout) (count : ℕ) (before : Memory) → HasVariables l count → ((base : ℕ) → before base ≡ None) → Shows count (λ base. None) (born l (numbers_from 1 count) before)
+shows_born l count before has none = record {
   live = λ base v.
       let low = v.low in let high = v.high in
       let in' = in_numbers (λ b. base == b) base (same_test base) (λ b e. other_test base b (λ f. e (sym f))) 1 count low (omega arith) in
       rw (in', (has.each base v).size) refl;
   fits = λ base. tt;
-  none = rw (before_numbers (λ b. 0 == b) 0 (same_test 0) (λ b e. other_test 0 b (λ f. e (sym f))) 1 count (omega arith)) refl;
-  beyond = λ base out. rw (beyond_numbers (λ b. base == b) base (same_test base) (λ b e. other_test base b (λ f. e (sym f))) 1 count (omega arith)) refl;
+  none = rw (before_numbers (λ b. 0 == b) 0 (same_test 0) (λ b e. other_test 0 b (λ f. e (sym f))) 1 count (omega arith)) (none 0);
+  beyond = λ base out. rw (beyond_numbers (λ b. base == b) base (same_test base) (λ b e. other_test base b (λ f. e (sym f))) 1 count (omega arith)) (none base);
 }

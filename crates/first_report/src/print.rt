@@ -4,7 +4,7 @@ ghost use Rattle.std.specs.Prelude.{◌≡◌, ◌+◌, ◌-◌, ◌<◌, ◌≤
 ghost use Rattle.first_program.specs.Meaning.{meaning_of};
 ghost use Rattle.first_program.specs.SourceViews.{program_of, IsShaped};
 ghost use Rattle.first_analysis.specs.Tables.{IsAnalysis};
-ghost use Rattle.eva_report.specs.Report.{all_texts, stmt_text, alarm_text, is_clean};
+ghost use Rattle.eva_report.specs.Report.{all_texts, stmt_text, alarm_text, is_clean, report_text};
 ghost use Rattle.eva_claim.specs.Claims.{IsReportOf, names_of};
 ghost use Rattle.first_report.specs.Rows as rows;
 
@@ -125,6 +125,27 @@ pub struct Printed {
     pub alarmed: bool,
 }
 
+// The text of the report.
+fn make_text(
+    alloc: Global,
+    program: &Program,
+    places: &[Place],
+    alarmed: bool,
+) -> Result<Vec<u8>, AllocError>
+    requires variables { length program.now.variables < 2 ^ 32 - 1 }
+    requires spans { length places.now ≡ length program.now.spans }
+    requires few { length places.now ≤ 200000 }
+    requires flag { is_clean (rows.alarms_from 1 places.now) ≡ not alarmed }
+    ensures { IfOk result (λ text. text.items ≡ report_text (rows.report_of (program_of program.now) places.now)) }
+{
+    let mut text = Vec::new(alloc);
+    push_first_line(&mut text)?;
+    push_lines(alloc, &mut text, program, places)?;
+    push_alarms(alloc, &mut text, places)?;
+    push_last_line(&mut text, !alarmed)?;
+    Ok(text)
+}
+
 /// The report of a program whose places are known.
 pub fn print_report(
     alloc: Global,
@@ -136,10 +157,6 @@ pub fn print_report(
     ensures { IfOk result (λ p. IsReportOf (meaning_of (program_of program.now)) p.alarmed p.text.items) }
 {
     let alarmed = is_alarmed(places);
-    let mut text = Vec::new(alloc);
-    push_first_line(&mut text)?;
-    push_lines(alloc, &mut text, program, places)?;
-    push_alarms(alloc, &mut text, places)?;
-    push_last_line(&mut text, !alarmed)?;
+    let text = make_text(alloc, program, places, alarmed)?;
     Ok(Printed { text, alarmed })
 }
