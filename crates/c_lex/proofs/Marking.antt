@@ -15,17 +15,17 @@ use Rattle.c_lex.specs.Spellings.{spelling, last_byte, single_marks}
 use Rattle.c_lex.specs.Marks.{is_allowed, IsSpelled}
 
 -- what has been read where a punctuator has been read, or a part of one
-abbrev IsMade : State → List ℕ → Type 0
+abbrev pub IsMade : State → List ℕ → Type 0
 IsMade (Start fresh) text = text ≡ []
 IsMade (Mark p) text = text ≡ spelling p
 IsMade LessEqualEqual text = text ≡ 60 ∷ 61 ∷ 61 ∷ []
 IsMade _ text = Unit {0}
 
-abbrev IsMadeNext : Option State → List ℕ → Type 0
+abbrev pub IsMadeNext : Option State → List ℕ → Type 0
 IsMadeNext None text = Unit {0}
 IsMadeNext (Some s) text = IsMade s text
 
-is_byte : (b x : ℕ) → (b == x) ≡ true → b ≡ x
+pub is_byte : (b x : ℕ) → (b == x) ≡ true → b ≡ x
 is_byte b x h = grind (arith, nat_tests)
 
 -- the text with its last byte
@@ -229,12 +229,12 @@ step_made c (Escape q) b dot text h = when_made _ (Quoted q) _ tt
 step_made c (Closed q) b dot text h = tt
 step_made c Other b dot text h = tt
 
-take_next : (bytes : List ℕ) (n : ℕ) → n < length bytes → take (suc n) bytes ≡ take n bytes ++ get_or bytes n 0 ∷ []
+pub take_next : (bytes : List ℕ) (n : ℕ) → n < length bytes → take (suc n) bytes ≡ take n bytes ++ get_or bytes n 0 ∷ []
 take_next [] n h = absurd (omega arith)
 take_next (b ∷ bs) zero h = refl
 take_next (b ∷ bs) (suc n) h = ap (λ t. b ∷ t) (take_next bs n (omega arith))
 
-reached_made : (c : Context) (fresh : Bool) (bytes : List ℕ) (n : ℕ) → n ≤ length bytes → IsMadeNext (reached c fresh bytes n) (take n bytes)
+pub reached_made : (c : Context) (fresh : Bool) (bytes : List ℕ) (n : ℕ) → n ≤ length bytes → IsMadeNext (reached c fresh bytes n) (take n bytes)
 reached_made c fresh bytes zero h = refl
 reached_made c fresh bytes (suc n) h =
     rw (take_next bytes n (omega arith)) (on (reached c fresh bytes n) (reached_made c fresh bytes n (omega arith)))

@@ -2,7 +2,7 @@
 use Rattle.std.proofs.Common.{◌≡◌, ℕ, zero, suc, ◌+◌, ◌-◌, ◌*◌, ◌<◌, ◌≤◌, Bool, List, [], ◌∷◌, ◌++◌, length, take, drop, Some, refl, sym, ◌∙◌, ap, subst, arith, append-nil, length-append, take_all, drop_of_length-le}
 use Rattle.c_base.specs.declared.token.Token.{Token}
 use Rattle.c_lex.specs.declared.cut.Cursor.{Cursor}
-use Rattle.c_lex.specs.declared.fault.Flaw.TheVariants.{BadByte as BadByteFlaw, OpenComment as OpenCommentFlaw, OpenString as OpenStringFlaw, BadNumber as BadNumberFlaw}
+use Rattle.c_base.specs.declared.token.LexSort.TheVariants.{BadByte as BadByteSort, OpenComment as OpenCommentSort, OpenString as OpenStringSort, BadNumber as BadNumberSort}
 use Rattle.c_lex.specs.declared.fault.LexFault.{LexFault}
 use Rattle.c_lex.specs.declared.fault.LexFault.TheVariants.{BadByte, OpenComment, OpenString, BadNumber, TooMany, Memory}
 use Rattle.c_lex.specs.declared.state.Context.{Context}
@@ -221,10 +221,10 @@ never_too_many l count h = by_text l.text h
     by_meaning n s Blank e = cc
     by_meaning n s (Gives w) e = cc
     by_meaning n s (Annotates a) e = cc
-    by_meaning n s (Wrong BadByteFlaw k) e = cc
-    by_meaning n s (Wrong OpenCommentFlaw k) e = cc
-    by_meaning n s (Wrong OpenStringFlaw k) e = cc
-    by_meaning n s (Wrong BadNumberFlaw k) e = cc
+    by_meaning n s (Wrong BadByteSort k) e = cc
+    by_meaning n s (Wrong OpenCommentSort k) e = cc
+    by_meaning n s (Wrong OpenStringSort k) e = cc
+    by_meaning n s (Wrong BadNumberSort k) e = cc
 
     by_text : (text : List ℕ) → IsMoveBy l text (fails (TooMany count)) → ⊥
     by_text [] e = by_context l.context e

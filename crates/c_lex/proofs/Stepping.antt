@@ -20,7 +20,7 @@ use Rattle.c_lex.specs.Texts.{escape, contents, inner}
 use Rattle.c_lex.specs.declared.text.Contents.{Contents}
 use Rattle.c_lex.specs.declared.text.Contents.TheVariants.{Bytes, WrongAt}
 use Rattle.c_lex.specs.declared.text.Escaped.{Escaped}
-use Rattle.c_lex.specs.declared.fault.Flaw.TheVariants.{BadByte}
+use Rattle.c_base.specs.declared.token.LexSort.TheVariants.{BadByte}
 use Rattle.c_lex.specs.Words.{keyword_of, is_dropped}
 use Rattle.c_lex.specs.Pieces.{is_inside, IsLongest}
 use Rattle.c_lex.specs.Tokens.{Left, Move, ends, fails, gives, skips, IsMove, IsMoveBy, move_at_end, IsOver, behind, inside, outside, annotated, token, further, after, after_all, move_over}
@@ -352,7 +352,7 @@ step_at_front bytes c n s m f e = by_meaning m e
           valid = inside_valid bytes c n s a f room fit.annotation;
           less = inside_less bytes c n s a f room;
         }
-    by_meaning (Wrong flaw k) e = moves (Wrong flaw k) (fails (fault_of flaw (further c.at k))) e refl
+    by_meaning (Wrong sort k) e = moves (Wrong sort k) (fails (fault_of sort (further c.at k))) e refl
 
 pub step_is : (bytes : List ℕ) (c : Cursor) (n : ℕ) (s : State) (text piece : List ℕ) (m : Meaning) → IsCursor bytes c →
     text ≡ take (c.end - c.next) (drop c.next bytes) → IsLongest c.context c.fresh text n s → 0 < n → piece ≡ take n text →

@@ -33,7 +33,7 @@ abbrev pub step_of : Cursor → State → List ℕ → Meaning → Step
 step_of c s piece Blank = Skip (over_cursor c s piece)
 step_of c s piece (Gives w) = Give (token w c.at) (over_cursor c s piece)
 step_of c s piece (Annotates a) = Give (token OpenAnnotation c.at) (inside_cursor c a (length piece))
-step_of c s piece (Wrong flaw n) = Fault (fault_of flaw (further c.at n))
+step_of c s piece (Wrong sort n) = Fault (fault_of sort (further c.at n))
 
 -- what comes where the text is used up
 abbrev pub step_at_end : Cursor → ℕ → Step

@@ -9,3 +9,4 @@ pub mod Meanings
 pub mod Tokens
 pub mod Lexing
 pub mod Cursors
+pub mod Laws

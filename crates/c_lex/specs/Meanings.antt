@@ -5,8 +5,8 @@ use Rattle.c_base.specs.declared.number.Span.{Span}
 use Rattle.c_base.specs.declared.token.Keyword.{Keyword}
 use Rattle.c_base.specs.declared.token.IntegerConstant.{IntegerConstant}
 use Rattle.c_base.specs.declared.token.Word.TheVariants.{Identifier, Keyword as KeywordWord, Punctuator, Integer, Floating, Character as CharacterWord, Text as TextWord, AnnotationWord}
-use Rattle.c_lex.specs.declared.fault.Flaw.{Flaw}
-use Rattle.c_lex.specs.declared.fault.Flaw.TheVariants.{BadByte, OpenComment, OpenString, BadNumber}
+use Rattle.c_base.specs.declared.token.LexSort.{LexSort}
+use Rattle.c_base.specs.declared.token.LexSort.TheVariants.{BadByte, OpenComment, OpenString, BadNumber}
 use Rattle.c_lex.specs.declared.fault.LexFault.{LexFault}
 use Rattle.c_lex.specs.declared.fault.LexFault.TheVariants.{BadByte as BadByteFault, OpenComment as OpenCommentFault, OpenString as OpenStringFault, BadNumber as BadNumberFault}
 use Rattle.c_lex.specs.declared.meaning.Meaning.{Meaning}
@@ -25,7 +25,7 @@ use Rattle.c_lex.specs.Pieces.{is_inside}
 use Rattle.c_lex.specs.Texts.{escape, contents, inner}
 use Rattle.c_lex.specs.Words.{keyword_of, is_dropped}
 
-abbrev pub fault_of : Flaw → Span → LexFault
+abbrev pub fault_of : LexSort → Span → LexFault
 fault_of BadByte at = BadByteFault at
 fault_of OpenComment at = OpenCommentFault at
 fault_of OpenString at = OpenStringFault at
@@ -114,11 +114,11 @@ abbrev pub FitsMeaning : List ℕ → Meaning → Type 0
 FitsMeaning piece Blank = Unit {0}
 FitsMeaning piece (Gives w) = Unit {0}
 FitsMeaning piece (Annotates a) = 3 + length (closing a) ≤ length piece
-FitsMeaning piece (Wrong flaw n) = n ≤ length piece
+FitsMeaning piece (Wrong sort n) = n ≤ length piece
 
 -- what is wrong stands between the quotes, or is the second of them
 abbrev pub IsSingle : ℕ → Meaning → Type 0
 IsSingle size Blank = ⊥
 IsSingle size (Gives w) = Unit {0}
 IsSingle size (Annotates a) = ⊥
-IsSingle size (Wrong flaw n) = n ≤ size + 1
+IsSingle size (Wrong sort n) = n ≤ size + 1

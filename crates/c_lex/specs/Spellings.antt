@@ -55,7 +55,7 @@ spelling DotDot = codes ".."
 spelling Implies = codes "==>"
 spelling Equivalent = codes "<==>"
 
-abbrev last_of : ℕ → List ℕ → ℕ
+abbrev pub last_of : ℕ → List ℕ → ℕ
 last_of b [] = b
 last_of b (c ∷ cs) = last_of c cs
 

@@ -85,7 +85,7 @@ abbrev pub move_over : Left → ℕ → State → Meaning → Move
 move_over l n s Blank = skips (behind l n s)
 move_over l n s (Gives w) = gives (token w l.at) (behind l n s)
 move_over l n s (Annotates c) = gives (token OpenAnnotation l.at) (inside l n c)
-move_over l n s (Wrong flaw offset) = fails (fault_of flaw (further l.at offset))
+move_over l n s (Wrong sort offset) = fails (fault_of sort (further l.at offset))
 
 -- over the longest piece at the front
 pub record IsOver (l : Left) (m : Move) : Type 0 where

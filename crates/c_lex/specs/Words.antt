@@ -1,41 +1,50 @@
 -- Names and keywords (C11 6.4.1, 6.4.2).
-use Rattle.std.specs.Prelude.{ℕ, Bool, cond, List, [], ◌∷◌, Option, None, Some, bytes_eq}
+use Rattle.std.specs.Prelude.{ℕ, ◌==◌, length, Bool, true, false, cond, List, [], ◌∷◌, Option, None, Some, bytes_eq}
 use lib.Chars.{codes}
 use Rattle.c_base.specs.declared.token.Keyword.{Keyword}
 use Rattle.c_base.specs.declared.token.Keyword.TheVariants.{Auto, Break, Case, Char, Const, Continue, Default, Do, Double, Else, Enum, Extern, Float, For, Goto, If, Inline, Int, Long, Register, Restrict, Return, Short, Signed, Sizeof, Static, Struct, Switch, Typedef, Union, Unsigned, Void, Volatile, While, Alignas, Alignof, Atomic, Bool as BoolWord, Complex, Generic, Imaginary, Noreturn, StaticAssert, ThreadLocal, Asm, Attribute, BuiltinOffsetof, BuiltinVaList}
 use Rattle.c_lex.specs.declared.word.Spelling.{Spelling}
 
 -- the keyword of the first spelling in a table that is the text
-unfoldable pub keyword_in : List Spelling → List ℕ → Option Keyword
+unfoldable pub keyword_in : List (List ℕ × Keyword) → List ℕ → Option Keyword
 keyword_in [] text = None
-keyword_in (s ∷ more) text = cond (bytes_eq text s.text.now) (Some s.keyword) (keyword_in more text)
-
--- a spelling, and else what further spellings say
-abbrev pub spelled : List ℕ → List ℕ → Keyword → Option Keyword → Option Keyword
-spelled text spelling keyword more = cond (bytes_eq text spelling) (Some keyword) more
+keyword_in (s ∷ more) text = cond (bytes_eq text s.0) (Some s.1) (keyword_in more text)
 
 -- C11's keywords, GCC's words that stand where no name can, and GCC's other spellings
-unfoldable pub keyword_of : List ℕ → Option Keyword
-keyword_of text =
-    spelled text (codes "auto") Auto (spelled text (codes "break") Break (spelled text (codes "case") Case (spelled text (codes "char") Char
-    (spelled text (codes "const") Const (spelled text (codes "continue") Continue (spelled text (codes "default") Default
-    (spelled text (codes "do") Do (spelled text (codes "double") Double (spelled text (codes "else") Else (spelled text (codes "enum") Enum
-    (spelled text (codes "extern") Extern (spelled text (codes "float") Float (spelled text (codes "for") For (spelled text (codes "goto") Goto
-    (spelled text (codes "if") If (spelled text (codes "inline") Inline (spelled text (codes "int") Int (spelled text (codes "long") Long
-    (spelled text (codes "register") Register (spelled text (codes "restrict") Restrict (spelled text (codes "return") Return
-    (spelled text (codes "short") Short (spelled text (codes "signed") Signed (spelled text (codes "sizeof") Sizeof
-    (spelled text (codes "static") Static (spelled text (codes "struct") Struct (spelled text (codes "switch") Switch
-    (spelled text (codes "typedef") Typedef (spelled text (codes "union") Union (spelled text (codes "unsigned") Unsigned
-    (spelled text (codes "void") Void (spelled text (codes "volatile") Volatile (spelled text (codes "while") While
-    (spelled text (codes "_Alignas") Alignas (spelled text (codes "_Alignof") Alignof (spelled text (codes "_Atomic") Atomic
-    (spelled text (codes "_Bool") BoolWord (spelled text (codes "_Complex") Complex (spelled text (codes "_Generic") Generic
-    (spelled text (codes "_Imaginary") Imaginary (spelled text (codes "_Noreturn") Noreturn (spelled text (codes "_Static_assert") StaticAssert
-    (spelled text (codes "_Thread_local") ThreadLocal (spelled text (codes "asm") Asm (spelled text (codes "__asm") Asm
-    (spelled text (codes "__asm__") Asm (spelled text (codes "__attribute") Attribute (spelled text (codes "__attribute__") Attribute
-    (spelled text (codes "__builtin_offsetof") BuiltinOffsetof (spelled text (codes "__builtin_va_list") BuiltinVaList
-    (spelled text (codes "__inline") Inline (spelled text (codes "__inline__") Inline (spelled text (codes "__restrict") Restrict
-    (spelled text (codes "__restrict__") Restrict (spelled text (codes "__const") Const (spelled text (codes "__volatile") Volatile
-    (spelled text (codes "__volatile__") Volatile (spelled text (codes "__signed__") Signed None))))))))))))))))))))))))))))))))))))))))))))))))))))))))))
+unfoldable pub keywords : List (List ℕ × Keyword)
+keywords =
+    (codes "auto", Auto) ∷ (codes "break", Break) ∷ (codes "case", Case) ∷ (codes "char", Char) ∷ (codes "const", Const) ∷
+    (codes "continue", Continue) ∷ (codes "default", Default) ∷ (codes "do", Do) ∷ (codes "double", Double) ∷ (codes "else", Else) ∷
+    (codes "enum", Enum) ∷ (codes "extern", Extern) ∷ (codes "float", Float) ∷ (codes "for", For) ∷ (codes "goto", Goto) ∷
+    (codes "if", If) ∷ (codes "inline", Inline) ∷ (codes "int", Int) ∷ (codes "long", Long) ∷ (codes "register", Register) ∷
+    (codes "restrict", Restrict) ∷ (codes "return", Return) ∷ (codes "short", Short) ∷ (codes "signed", Signed) ∷
+    (codes "sizeof", Sizeof) ∷ (codes "static", Static) ∷ (codes "struct", Struct) ∷ (codes "switch", Switch) ∷
+    (codes "typedef", Typedef) ∷ (codes "union", Union) ∷ (codes "unsigned", Unsigned) ∷ (codes "void", Void) ∷
+    (codes "volatile", Volatile) ∷ (codes "while", While) ∷ (codes "_Alignas", Alignas) ∷ (codes "_Alignof", Alignof) ∷
+    (codes "_Atomic", Atomic) ∷ (codes "_Bool", BoolWord) ∷ (codes "_Complex", Complex) ∷ (codes "_Generic", Generic) ∷
+    (codes "_Imaginary", Imaginary) ∷ (codes "_Noreturn", Noreturn) ∷ (codes "_Static_assert", StaticAssert) ∷
+    (codes "_Thread_local", ThreadLocal) ∷ (codes "asm", Asm) ∷ (codes "__asm", Asm) ∷ (codes "__asm__", Asm) ∷
+    (codes "__attribute", Attribute) ∷ (codes "__attribute__", Attribute) ∷ (codes "__builtin_offsetof", BuiltinOffsetof) ∷
+    (codes "__builtin_va_list", BuiltinVaList) ∷ (codes "__inline", Inline) ∷ (codes "__inline__", Inline) ∷
+    (codes "__restrict", Restrict) ∷ (codes "__restrict__", Restrict) ∷ (codes "__const", Const) ∷ (codes "__volatile", Volatile) ∷
+    (codes "__volatile__", Volatile) ∷ (codes "__signed__", Signed) ∷ []
+
+-- the keyword that a name spells
+abbrev pub keyword_of : List ℕ → Option Keyword
+keyword_of text = keyword_in keywords text
+
+abbrev pub kept : Bool → List ℕ × Keyword → List (List ℕ × Keyword) → List (List ℕ × Keyword)
+kept true s table = s ∷ table
+kept false s table = table
+
+-- the spellings of n bytes in a table
+abbrev pub of_length : ℕ → List (List ℕ × Keyword) → List (List ℕ × Keyword)
+of_length n [] = []
+of_length n (s ∷ table) = kept (length s.0 == n) s (of_length n table)
+
+-- a row of the code's table
+abbrev pub row : Spelling → List ℕ × Keyword
+row s = (s.text.now, s.keyword)
 
 -- a name that is no token
 abbrev pub is_dropped : List ℕ → Bool

@@ -6,7 +6,7 @@ ghost use Rattle.c_lex.specs.Pieces.{accepts, IsLongest};
 ghost use Rattle.c_lex.specs.Tokens.{after, after_all, is_fresh};
 
 use crate::bytes::{before, byte_at};
-use crate::fault::LexFault;
+use crate::fault::{LexFault, fault_at};
 use crate::meaning::{Meaning, closing_length, meaning_of};
 use crate::state::{Context, State, begin_with, is_whole, step_with};
 use c_base::number::Span;
@@ -14,7 +14,7 @@ use c_base::token::{Token, Word};
 use std::alloc::{AllocError, Global};
 
 /// The longest piece at the front of some bytes: how many bytes it has, and what they make.
-#[derive(Clone, Copy, Debug, PartialEq, Eq)]
+#[derive(Clone, Copy)]
 pub struct Front {
     pub length: usize,
     pub state: State,
@@ -66,7 +66,7 @@ pub fn longest_front(context: Context, fresh: bool, bytes: &[u8]) -> Front
 }
 
 /// Where the lexer stands: the text that it cuts goes to `end`.
-#[derive(Clone, Copy, Debug, PartialEq, Eq)]
+#[derive(Clone, Copy)]
 pub struct Cursor {
     pub context: Context,
     pub fresh: bool,
@@ -76,7 +76,7 @@ pub struct Cursor {
 }
 
 /// What comes next.
-#[derive(Debug, Drop)]
+#[derive(Drop)]
 pub enum Step {
     End,
     Fault(LexFault),
@@ -229,10 +229,13 @@ fn step_over(cursor: &Cursor, state: State, piece: &[u8], meaning: Meaning) -> S
             },
             cursor.inside(annotation, piece.len()),
         ),
-        Meaning::Wrong(flaw, offset) => Step::Fault(flaw.at(Span {
-            line: cursor.at.line,
-            col: cursor.at.col + offset as u32,
-        })),
+        Meaning::Wrong(sort, offset) => {
+            let at = Span {
+                line: cursor.at.line,
+                col: cursor.at.col + offset as u32,
+            };
+            Step::Fault(fault_at(sort, at))
+        }
     }
 }
 

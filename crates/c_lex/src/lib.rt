@@ -6,15 +6,18 @@ ghost use Rattle.c_lex.specs.Lexing.{AreAnswered, IsRefusal};
 
 use crate::cut::{Cursor, Step, advance};
 pub use crate::fault::LexFault;
+pub use crate::laws::laws_of_pieces;
+pub use crate::punctuator::spelling_of;
 use c_base::token::Token;
 use std::alloc::{AllocError, Global};
 
 mod bytes;
 mod cut;
 mod fault;
+mod laws;
 mod meaning;
 mod number;
-pub mod punctuator;
+mod punctuator;
 mod state;
 mod text;
 mod word;
@@ -61,6 +64,3 @@ pub fn lex(alloc: Global, bytes: &[u8]) -> Result<Vec<Token>, LexFault>
     }
     Ok(tokens)
 }
-
-#[cfg(test)]
-mod tests;

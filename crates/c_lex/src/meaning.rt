@@ -3,17 +3,16 @@ ghost use Rattle.std.specs.Prelude.{◌≡◌, ◌<◌, ◌≤◌, ◌^◌, leng
 ghost use Rattle.c_lex.specs.Meanings.{closing, comment_meaning, name_meaning, number_meaning, text_meaning, single, character_in, character_meaning, quoted_meaning, word_meaning, meaning, FitsMeaning, IsSingle};
 
 use crate::bytes::{behind, byte_at};
-use crate::fault::Flaw;
 use crate::number::{is_floating_constant, read_integer};
 use crate::state::{Context, Quote, State};
 use crate::text::{Contents, between_quotes, read_contents, read_escape};
 use crate::word::{find_keyword, is_dropped_name};
 use c_base::name::Name;
-use c_base::token::Word;
+use c_base::token::{LexSort, Word};
 use std::alloc::{AllocError, Global};
 
 /// What a piece gives.
-#[derive(Debug, Drop)]
+#[derive(Drop)]
 pub enum Meaning {
     /// No token.
     Blank,
@@ -22,7 +21,7 @@ pub enum Meaning {
     /// The tokens of an annotation.
     Annotates(Context),
     /// No token, and so the file has none; what is wrong stands so many bytes on.
-    Wrong(Flaw, usize),
+    Wrong(LexSort, usize),
 }
 
 /// How many bytes close an annotation.
@@ -83,7 +82,7 @@ fn meaning_of_number(text: &[u8]) -> Meaning
         None => if is_floating_constant(text) {
             Meaning::Gives(Word::Floating)
         } else {
-            Meaning::Wrong(Flaw::BadNumber, 0)
+            Meaning::Wrong(LexSort::BadNumber, 0)
         },
     }
 }
@@ -95,7 +94,7 @@ fn meaning_of_text(alloc: Global, text: &[u8]) -> Result<Meaning, AllocError>
     ensures fits { IfOk result (FitsMeaning text.now) }
 {
     match read_contents(alloc, between_quotes(text))? {
-        Contents::WrongAt(index) => Ok(Meaning::Wrong(Flaw::BadByte, index + 1)),
+        Contents::WrongAt(index) => Ok(Meaning::Wrong(LexSort::BadByte, index + 1)),
         Contents::Bytes(bytes) => Ok(Meaning::Gives(Word::Text(bytes))),
     }
 }
@@ -109,7 +108,7 @@ fn meaning_of_single(value: u8, count: usize, size: usize) -> Meaning
     if count == size {
         Meaning::Gives(Word::Character(value))
     } else {
-        Meaning::Wrong(Flaw::BadByte, 1 + count)
+        Meaning::Wrong(LexSort::BadByte, 1 + count)
     }
 }
 
@@ -121,18 +120,18 @@ fn meaning_of_inner(inner: &[u8]) -> Meaning
 {
     let first = byte_at(inner, 0);
     if inner.len() == 0 {
-        return Meaning::Wrong(Flaw::BadByte, 1);
+        return Meaning::Wrong(LexSort::BadByte, 1);
     }
     if first == b'\\' {
         return match read_escape(behind(inner, 1)) {
-            None => Meaning::Wrong(Flaw::BadByte, 1),
+            None => Meaning::Wrong(LexSort::BadByte, 1),
             Some(escaped) => meaning_of_single(escaped.value, 1 + escaped.length, inner.len()),
         };
     }
     if first < 128 {
         meaning_of_single(first, 1, inner.len())
     } else {
-        Meaning::Wrong(Flaw::BadByte, 1)
+        Meaning::Wrong(LexSort::BadByte, 1)
     }
 }
 
@@ -176,23 +175,23 @@ pub fn meaning_of(
     ensures fits { IfOk result (FitsMeaning text.now) }
 {
     match state {
-        State::Start(_) => Ok(Meaning::Wrong(Flaw::BadByte, 0)),
+        State::Start(_) => Ok(Meaning::Wrong(LexSort::BadByte, 0)),
         State::White => Ok(Meaning::Blank),
         State::Name => meaning_of_name(alloc, text),
-        State::Backslash => Ok(Meaning::Wrong(Flaw::BadByte, 0)),
+        State::Backslash => Ok(Meaning::Wrong(LexSort::BadByte, 0)),
         State::AnnotationName => meaning_of_word(alloc, text),
         State::Number => Ok(meaning_of_number(text)),
         State::Exponent => Ok(meaning_of_number(text)),
         State::Mark(mark) => Ok(Meaning::Gives(Word::Punctuator(mark))),
-        State::LessEqualEqual => Ok(Meaning::Wrong(Flaw::BadByte, 0)),
+        State::LessEqualEqual => Ok(Meaning::Wrong(LexSort::BadByte, 0)),
         State::LineComment => Ok(meaning_of_comment(context, Context::LineAnnotation, text)),
-        State::BlockComment => Ok(Meaning::Wrong(Flaw::OpenComment, 0)),
-        State::BlockStar => Ok(Meaning::Wrong(Flaw::OpenComment, 0)),
+        State::BlockComment => Ok(Meaning::Wrong(LexSort::OpenComment, 0)),
+        State::BlockStar => Ok(Meaning::Wrong(LexSort::OpenComment, 0)),
         State::Comment => Ok(meaning_of_comment(context, Context::BlockAnnotation, text)),
         State::SkippedLine => Ok(Meaning::Blank),
-        State::Quoted(_) => Ok(Meaning::Wrong(Flaw::OpenString, 0)),
-        State::Escape(_) => Ok(Meaning::Wrong(Flaw::OpenString, 0)),
+        State::Quoted(_) => Ok(Meaning::Wrong(LexSort::OpenString, 0)),
+        State::Escape(_) => Ok(Meaning::Wrong(LexSort::OpenString, 0)),
         State::Closed(quote) => meaning_of_quoted(alloc, quote, text),
-        State::Other => Ok(Meaning::Wrong(Flaw::BadByte, 0)),
+        State::Other => Ok(Meaning::Wrong(LexSort::BadByte, 0)),
     }
 }

@@ -6,7 +6,7 @@ use crate::bytes::{before, behind, byte_at, is_digit_byte, is_sign_byte};
 use c_base::token::{IntegerConstant, Length, Radix};
 
 /// What the suffix of an integer constant says.
-#[derive(Clone, Copy, Debug, PartialEq, Eq)]
+#[derive(Clone, Copy)]
 pub struct Suffix {
     pub unsigned: bool,
     pub length: Length,

@@ -9,7 +9,7 @@ use crate::bytes::{
 use c_base::token::Punctuator;
 
 /// Where a byte stands: in the code, in an annotation `//@ ..`, or in an annotation `/*@ .. */`.
-#[derive(Clone, Copy, Debug, PartialEq, Eq)]
+#[derive(Clone, Copy)]
 pub enum Context {
     Code,
     LineAnnotation,
@@ -17,14 +17,14 @@ pub enum Context {
 }
 
 /// What a constant between quotes is: `'..'` or `".."`.
-#[derive(Clone, Copy, Debug, PartialEq, Eq)]
+#[derive(Clone, Copy)]
 pub enum Quote {
     Character,
     Text,
 }
 
 /// What has been read of a piece.
-#[derive(Clone, Copy, Debug, PartialEq, Eq)]
+#[derive(Clone, Copy)]
 pub enum State {
     /// Nothing yet; the value says whether only white space stands before on the line.
     Start(bool),

@@ -9,7 +9,7 @@ use sqlite_items::Items;
 use std::alloc::{AllocError, Global};
 
 /// An escape: the byte that it stands for, and how many bytes it has behind its `\`.
-#[derive(Clone, Copy, Debug, PartialEq, Eq)]
+#[derive(Clone, Copy)]
 pub struct Escaped {
     pub value: u8,
     pub length: usize,
@@ -89,7 +89,7 @@ pub fn read_escape(text: &[u8]) -> Option<Escaped>
 }
 
 /// What a text between quotes stands for: its bytes, or where the first escape that is wrong has its `\\`.
-#[derive(Debug, Drop)]
+#[derive(Drop)]
 pub enum Contents {
     Bytes(Items<u8>),
     WrongAt(usize),

@@ -55,12 +55,15 @@ overwritten old first new = take first old ++ new ++ drop (first + length new) o
 abbrev pub with_base : Memory → ℕ → Option (List Cell) → Memory
 with_base m base cells = λ other. cond (other == base) cells (m other)
 
+-- the bits of a value are written into the base from the address on
+abbrev pub written_at : Layout → Memory → Scalar → Value → Value → ℕ → Memory
+written_at l m type at v base =
+    with_base m base (Some (overwritten (unwrap_or (m base) []) (8 * offset_in l base at)
+    (cells_of l.machine (bits_of_scalar type l.machine) v)))
+
 abbrev pub stored_to : Layout → Memory → Scalar → Value → Value → Option ℕ → Result Memory Kind
 stored_to l m type at v None = Err MemAccess
-stored_to l m type at v (Some base) =
-    cond (l.readonly base) (Err MemAccess)
-    (Ok (with_base m base (Some (overwritten (unwrap_or (m base) []) (8 * offset_in l base at)
-    (cells_of l.machine (bits_of_scalar type l.machine) v)))))
+stored_to l m type at v (Some base) = cond (l.readonly base) (Err MemAccess) (Ok (written_at l m type at v base))
 
 -- the memory after a store through the address, or why it stops (C11 6.5.3.2p4, 6.7.3p6)
 abbrev pub stored : Layout → Memory → Scalar → Value → Value → Result Memory Kind

@@ -141,7 +141,7 @@ fn shown(
         return Ok(out);
     }
     match lex(alloc, source) {
-        Err(fault) => format!(in alloc; "{fault}"),
+        Err(fault) => format!(in alloc; "{fault:?}"),
         Ok(tokens) => {
             add_both(alloc, &mut out, depth, names, tokens.as_slice())?;
             Ok(out)

@@ -192,7 +192,7 @@ fn shown(alloc: Global, source: &[u8], names: &TypeNames) -> Result<String, Allo
         return Ok(out);
     }
     match lex(alloc, source) {
-        Err(fault) => format!(in alloc; "{fault}"),
+        Err(fault) => format!(in alloc; "{fault:?}"),
         Ok(tokens) => match parse_expr(alloc, tokens.as_slice(), 0, names) {
             Err(fault) => format!(in alloc; "{fault}"),
             Ok((expr, end)) => {

@@ -5,7 +5,7 @@ use Rattle.std.proofs.lemmas.Bool.Decides.{nat_tests}
 use Rattle.c_prog.specs.Syntax.{Base, base_at, Program, AreApart, IsLayout}
 use Rattle.c_prog.specs.Packing.{bytes_of, size_at, is_readonly_at, packed, HasRoom, HasLayout}
 
-within : (bs : List Base) (n : ℕ) → bytes_of (take n bs) + size_at (base_at bs n) ≤ bytes_of bs
+pub within : (bs : List Base) (n : ℕ) → bytes_of (take n bs) + size_at (base_at bs n) ≤ bytes_of bs
 within [] zero = omega arith
 within [] (suc n) = omega arith
 within (b ∷ bs) zero = omega arith

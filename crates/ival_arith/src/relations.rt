@@ -7,7 +7,7 @@ use c_base::operators::Rel;
 use ival_core::Ival;
 
 /// Which truths a relation may have.
-#[derive(Clone, Copy, Debug, PartialEq, Eq)]
+#[derive(Clone, Copy)]
 pub struct Truths {
     pub may_be_true: bool,
     pub may_be_false: bool,

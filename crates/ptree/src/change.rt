@@ -1,7 +1,7 @@
 //! Trees with one key more or less.
-ghost use Rattle.std.specs.Prelude.{◌≡◌, IfOk};
+ghost use Rattle.std.specs.Prelude.{◌≡◌, ◌++◌, IfOk};
 ghost use Rattle.ptree.specs.Entries as map;
-ghost use Rattle.ptree.specs.Node.{entries, IsTree, IsForeign, root_entries, IsRoot};
+ghost use Rattle.ptree.specs.Node.{entries, IsTree, IsFork, IsForeign, root_entries, IsRoot};
 
 use crate::Mem;
 use crate::node::Node;
@@ -33,10 +33,10 @@ impl<V: Drop> Node<V> {
                 }
                 if key < *middle {
                     let left = Node::set(left, alloc, key, value)?;
-                    Node::fork(alloc, *bit, *middle, left, right.clone()?)
+                    Node::with_left(alloc, *bit, *middle, left, right)
                 } else {
                     let right = Node::set(right, alloc, key, value)?;
-                    Node::fork(alloc, *bit, *middle, left.clone()?, right)
+                    Node::with_right(alloc, *bit, *middle, left, right)
                 }
             }
         }
@@ -55,6 +55,74 @@ impl<V: Drop> Node<V> {
         } else {
             Node::join(alloc, label, this.clone()?, key, leaf)
         }
+    }
+
+    /// The fork with another left side.
+    fn with_left(
+        alloc: Global,
+        bit: u32,
+        middle: u64,
+        left: Rc<Node<V>>,
+        right: &Rc<Node<V>>,
+    ) -> Mem<Rc<Node<V>>>
+        requires fork { IsFork bit middle (entries left.value) (entries right.now.value) }
+        requires left { IsTree left.value }
+        requires right { IsTree right.now.value }
+        ensures entries { IfOk result (λ n. entries n.value ≡ entries left.value ++ entries right.now.value) }
+        ensures tree { IfOk result (λ n. IsTree n.value) }
+    {
+        Node::fork(alloc, bit, middle, left, right.clone()?)
+    }
+
+    /// The fork with another right side.
+    fn with_right(
+        alloc: Global,
+        bit: u32,
+        middle: u64,
+        left: &Rc<Node<V>>,
+        right: Rc<Node<V>>,
+    ) -> Mem<Rc<Node<V>>>
+        requires fork { IsFork bit middle (entries left.now.value) (entries right.value) }
+        requires left { IsTree left.now.value }
+        requires right { IsTree right.value }
+        ensures entries { IfOk result (λ n. entries n.value ≡ entries left.now.value ++ entries right.value) }
+        ensures tree { IfOk result (λ n. IsTree n.value) }
+    {
+        Node::fork(alloc, bit, middle, left.clone()?, right)
+    }
+
+    /// The fork of its right side and what there is on the left.
+    fn beside_right(
+        alloc: Global,
+        bit: u32,
+        middle: u64,
+        left: Option<Rc<Node<V>>>,
+        right: &Rc<Node<V>>,
+    ) -> Mem<Option<Rc<Node<V>>>>
+        requires fork { IsFork bit middle (root_entries left) (entries right.now.value) }
+        requires left { IsRoot left }
+        requires right { IsTree right.now.value }
+        ensures entries { IfOk result (λ r. root_entries r ≡ root_entries left ++ entries right.now.value) }
+        ensures tree { IfOk result (λ r. IsRoot r) }
+    {
+        Node::fork_of(alloc, bit, middle, left, Some(right.clone()?))
+    }
+
+    /// The fork of its left side and what there is on the right.
+    fn beside_left(
+        alloc: Global,
+        bit: u32,
+        middle: u64,
+        left: &Rc<Node<V>>,
+        right: Option<Rc<Node<V>>>,
+    ) -> Mem<Option<Rc<Node<V>>>>
+        requires fork { IsFork bit middle (entries left.now.value) (root_entries right) }
+        requires left { IsTree left.now.value }
+        requires right { IsRoot right }
+        ensures entries { IfOk result (λ r. root_entries r ≡ entries left.now.value ++ root_entries right) }
+        ensures tree { IfOk result (λ r. IsRoot r) }
+    {
+        Node::fork_of(alloc, bit, middle, Some(left.clone()?), right)
     }
 
     /// The tree without the key, or nothing where it has no other one.
@@ -78,10 +146,10 @@ impl<V: Drop> Node<V> {
             } => {
                 if key < *middle {
                     let left = Node::remove(left, alloc, key)?;
-                    Node::fork_of(alloc, *bit, *middle, left, Some(right.clone()?))
+                    Node::beside_right(alloc, *bit, *middle, left, right)
                 } else {
                     let right = Node::remove(right, alloc, key)?;
-                    Node::fork_of(alloc, *bit, *middle, Some(left.clone()?), right)
+                    Node::beside_left(alloc, *bit, *middle, left, right)
                 }
             }
         }

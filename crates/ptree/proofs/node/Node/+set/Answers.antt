@@ -12,28 +12,28 @@ beside-requires-then-key-bit-clause-foreign g t c =
     let tree = subst IsTree whole c.requires in
     rw whole (fork_foreign _ _ _ _ (fork_agrees _ _ _ _ tree.0) c.if-key-bit.true)
 
-pub fork-requires-clause-fork : goal.fork-requires-clause-fork
-fork-requires-clause-fork g t c =
+pub with_left-requires-clause-fork : goal.with_left-requires-clause-fork
+with_left-requires-clause-fork g t c =
     let tree = subst IsTree (sym c.as_ref.ensures ∙ c.in-Fork.is) c.requires in
-    rw (c.in_ok-left-in-Fork.ensures.entries, c.in_ok-clone-in-Fork.ensures.cases)
+    rw c.in_ok-left-in-Fork.ensures.entries
     (IsFork-set_left _ _ _ _ tree.0 c.args.key c.args.value c.if-key-middle.true c.if-key-bit.false)
 
-pub fork-requires-else-key-middle-clause-fork : goal.fork-requires-else-key-middle-clause-fork
-fork-requires-else-key-middle-clause-fork g t c =
+pub with_right-requires-clause-fork : goal.with_right-requires-clause-fork
+with_right-requires-clause-fork g t c =
     let tree = subst IsTree (sym c.as_ref.ensures ∙ c.in-Fork.is) c.requires in
-    rw (c.in_ok-right-in-Fork.ensures.entries, c.in_ok-clone-in-Fork-2.ensures.cases)
+    rw c.in_ok-right-in-Fork.ensures.entries
     (IsFork-set_right _ _ _ _ tree.0 c.args.key c.args.value c.if-key-middle.false c.if-key-bit.false)
 
-pub returns-in_ok-clone-in-Fork-clause-entries : goal.returns-in_ok-clone-in-Fork-clause-entries
-returns-in_ok-clone-in-Fork-clause-entries g t c =
+pub returns-in_ok-left-in-Fork-clause-entries : goal.returns-in_ok-left-in-Fork-clause-entries
+returns-in_ok-left-in-Fork-clause-entries g t c =
     let whole = sym c.as_ref.ensures ∙ c.in-Fork.is in
     let tree = subst IsTree whole c.requires in
     let side = set-left _ _ c.args.value _ _ tree.0.apart c.if-key-middle.true in
-    rw (whole, side) (rw (c.in_ok-left-in-Fork.ensures.entries, c.in_ok-clone-in-Fork.ensures.cases) at c.fork.ensures.entries)
+    rw (whole, side) (rw c.in_ok-left-in-Fork.ensures.entries at c.with_left.ensures.entries)
 
-pub returns-in_ok-clone-in-Fork-2-clause-entries : goal.returns-in_ok-clone-in-Fork-2-clause-entries
-returns-in_ok-clone-in-Fork-2-clause-entries g t c =
+pub returns-in_ok-right-in-Fork-clause-entries : goal.returns-in_ok-right-in-Fork-clause-entries
+returns-in_ok-right-in-Fork-clause-entries g t c =
     let whole = sym c.as_ref.ensures ∙ c.in-Fork.is in
     let tree = subst IsTree whole c.requires in
     let side = set-right _ _ c.args.value _ _ tree.0.apart c.if-key-middle.false in
-    rw (whole, side) (rw (c.in_ok-right-in-Fork.ensures.entries, c.in_ok-clone-in-Fork-2.ensures.cases) at c.fork-else-key-middle.ensures.entries)
+    rw (whole, side) (rw c.in_ok-right-in-Fork.ensures.entries at c.with_right.ensures.entries)

@@ -1,6 +1,7 @@
-//! Outside vectors: what C11 and GCC read in small files.
-use crate::lex;
-use c_base::token::Word;
+//! What C11 and GCC read in small files.
+use c_base::number::Span;
+use c_base::token::{LexSort, Word};
+use c_lex::{LexFault, lex};
 use std::alloc::{AllocError, Global};
 use std::test::Fail;
 
@@ -31,6 +32,21 @@ fn word_text(alloc: Global, word: &Word) -> Result<String, AllocError> {
     Ok(out)
 }
 
+fn text_at(alloc: Global, sort: LexSort, at: Span) -> Result<String, AllocError> {
+    format!(in alloc; "{}:{}: {sort:?}", at.line, at.col)
+}
+
+fn fault_text(alloc: Global, fault: LexFault) -> Result<String, AllocError> {
+    match fault {
+        LexFault::BadByte { at } => text_at(alloc, LexSort::BadByte, at),
+        LexFault::OpenComment { at } => text_at(alloc, LexSort::OpenComment, at),
+        LexFault::OpenString { at } => text_at(alloc, LexSort::OpenString, at),
+        LexFault::BadNumber { at } => text_at(alloc, LexSort::BadNumber, at),
+        LexFault::TooMany { count } => format!(in alloc; "{count} tokens"),
+        LexFault::Memory => format!(in alloc; "no memory"),
+    }
+}
+
 /// A source, and what is read in it.
 struct Case {
     source: &'static [u8],
@@ -44,7 +60,7 @@ fn shown(alloc: Global, source: &[u8]) -> Result<String, AllocError> {
         return Ok(out);
     }
     match lex(alloc, source) {
-        Err(fault) => format!(in alloc; "{fault}"),
+        Err(fault) => fault_text(alloc, fault),
         Ok(tokens) => {
             for token in &tokens {
                 out.push_str(" ")?;
@@ -62,7 +78,7 @@ fn places(alloc: Global, source: &[u8]) -> Result<String, AllocError> {
         return Ok(out);
     }
     match lex(alloc, source) {
-        Err(fault) => format!(in alloc; "{fault}"),
+        Err(fault) => fault_text(alloc, fault),
         Ok(tokens) => {
             for token in &tokens {
                 let place = format!(in alloc; " {}:{}", token.span.line, token.span.col)?;
@@ -128,6 +144,25 @@ const WORDS_WORDS: [Case; 7] = [
     },
 ];
 
+const KEYWORDS_WORDS: [Case; 4] = [
+    Case {
+        source: b"do if for asm auto void break _Bool double static default __const",
+        wanted: " Do If For Asm Auto Void Break Bool Double Static Default Const",
+    },
+    Case {
+        source: b"continue __inline _Noreturn _Imaginary __signed__ __attribute __volatile__",
+        wanted: " Continue Inline Noreturn Imaginary Signed Attribute Volatile",
+    },
+    Case {
+        source: b"_Thread_local _Static_assert __builtin_va_list __builtin_offsetof",
+        wanted: " ThreadLocal StaticAssert BuiltinVaList BuiltinOffsetof",
+    },
+    Case {
+        source: b"_ dO done volatil _static_assert_ __builtin_offsetof_ a_name_of_many_bytes",
+        wanted: " _ dO done volatil _static_assert_ __builtin_offsetof_ a_name_of_many_bytes",
+    },
+];
+
 const NUMBERS_WORDS: [Case; 16] = [
     Case {
         source: b"0 017 42 0x1F",
@@ -151,47 +186,47 @@ const NUMBERS_WORDS: [Case; 16] = [
     },
     Case {
         source: b"340282366920938463463374607431768211456",
-        wanted: "1:1: bad number",
+        wanted: "1:1: BadNumber",
     },
     Case {
         source: b"08",
-        wanted: "1:1: bad number",
+        wanted: "1:1: BadNumber",
     },
     Case {
         source: b"0x",
-        wanted: "1:1: bad number",
+        wanted: "1:1: BadNumber",
     },
     Case {
         source: b"1.2.3",
-        wanted: "1:1: bad number",
+        wanted: "1:1: BadNumber",
     },
     Case {
         source: b"0xg",
-        wanted: "1:1: bad number",
+        wanted: "1:1: BadNumber",
     },
     Case {
         source: b"0xe+1",
-        wanted: "1:1: bad number",
+        wanted: "1:1: BadNumber",
     },
     Case {
         source: b"12abc",
-        wanted: "1:1: bad number",
+        wanted: "1:1: BadNumber",
     },
     Case {
         source: b"1lL",
-        wanted: "1:1: bad number",
+        wanted: "1:1: BadNumber",
     },
     Case {
         source: b"1uu",
-        wanted: "1:1: bad number",
+        wanted: "1:1: BadNumber",
     },
     Case {
         source: b"0x1.8",
-        wanted: "1:1: bad number",
+        wanted: "1:1: BadNumber",
     },
     Case {
         source: b"1e",
-        wanted: "1:1: bad number",
+        wanted: "1:1: BadNumber",
     },
 ];
 
@@ -214,39 +249,39 @@ const TEXTS_WORDS: [Case; 13] = [
     },
     Case {
         source: b"'\xe9'",
-        wanted: "1:2: bad byte",
+        wanted: "1:2: BadByte",
     },
     Case {
         source: br"''",
-        wanted: "1:2: bad byte",
+        wanted: "1:2: BadByte",
     },
     Case {
         source: br"'ab'",
-        wanted: "1:3: bad byte",
+        wanted: "1:3: BadByte",
     },
     Case {
         source: br"'\400'",
-        wanted: "1:2: bad byte",
+        wanted: "1:2: BadByte",
     },
     Case {
         source: br"'\x100'",
-        wanted: "1:2: bad byte",
+        wanted: "1:2: BadByte",
     },
     Case {
         source: br#""a\n\q""#,
-        wanted: "1:5: bad byte",
+        wanted: "1:5: BadByte",
     },
     Case {
         source: br#""\x""#,
-        wanted: "1:2: bad byte",
+        wanted: "1:2: BadByte",
     },
     Case {
         source: b"x 'a\n'",
-        wanted: "1:3: string or character without end",
+        wanted: "1:3: OpenString",
     },
     Case {
         source: b"\"a\\\"",
-        wanted: "1:1: string or character without end",
+        wanted: "1:1: OpenString",
     },
 ];
 
@@ -265,35 +300,35 @@ const GAPS_PLACES: [Case; 11] = [
     },
     Case {
         source: b"x #",
-        wanted: "1:3: bad byte",
+        wanted: "1:3: BadByte",
     },
     Case {
         source: b"a/* */ # b",
-        wanted: "1:8: bad byte",
+        wanted: "1:8: BadByte",
     },
     Case {
         source: b"/*",
-        wanted: "1:1: comment without end",
+        wanted: "1:1: OpenComment",
     },
     Case {
         source: b"a\n/*/ b",
-        wanted: "2:1: comment without end",
+        wanted: "2:1: OpenComment",
     },
     Case {
         source: b"`",
-        wanted: "1:1: bad byte",
+        wanted: "1:1: BadByte",
     },
     Case {
         source: b"a@",
-        wanted: "1:2: bad byte",
+        wanted: "1:2: BadByte",
     },
     Case {
         source: b"a\x80",
-        wanted: "1:2: bad byte",
+        wanted: "1:2: BadByte",
     },
     Case {
         source: b"a \\\nb",
-        wanted: "1:3: bad byte",
+        wanted: "1:3: BadByte",
     },
 ];
 
@@ -320,19 +355,19 @@ const ANNOTATIONS_WORDS: [Case; 9] = [
     },
     Case {
         source: b"/*@ # */",
-        wanted: "1:5: bad byte",
+        wanted: "1:5: BadByte",
     },
     Case {
         source: b"/*@ x",
-        wanted: "1:1: comment without end",
+        wanted: "1:1: OpenComment",
     },
     Case {
         source: b"/*@ \"x*/\" ",
-        wanted: "1:5: string or character without end",
+        wanted: "1:5: OpenString",
     },
     Case {
         source: b"/*@ 08 '",
-        wanted: "1:1: comment without end",
+        wanted: "1:1: OpenComment",
     },
 ];
 
@@ -349,34 +384,44 @@ const ANNOTATIONS_PLACES: [Case; 2] = [
 
 #[test]
 fn words(rt: HostRuntime) -> Result<(), Fail> {
-    assert_eq!(rt; unlike_words(rt.alloc(), &WORDS_WORDS)?.as_str(), "");
+    let unlike = unlike_words(rt.alloc(), &WORDS_WORDS)?;
+    assert!(rt; unlike.is_empty(), "{unlike}");
+    Ok(())
+}
+
+#[test]
+fn keywords(rt: HostRuntime) -> Result<(), Fail> {
+    let unlike = unlike_words(rt.alloc(), &KEYWORDS_WORDS)?;
+    assert!(rt; unlike.is_empty(), "{unlike}");
     Ok(())
 }
 
 #[test]
 fn numbers(rt: HostRuntime) -> Result<(), Fail> {
-    assert_eq!(rt; unlike_words(rt.alloc(), &NUMBERS_WORDS)?.as_str(), "");
+    let unlike = unlike_words(rt.alloc(), &NUMBERS_WORDS)?;
+    assert!(rt; unlike.is_empty(), "{unlike}");
     Ok(())
 }
 
 #[test]
 fn texts(rt: HostRuntime) -> Result<(), Fail> {
-    assert_eq!(rt; unlike_words(rt.alloc(), &TEXTS_WORDS)?.as_str(), "");
+    let unlike = unlike_words(rt.alloc(), &TEXTS_WORDS)?;
+    assert!(rt; unlike.is_empty(), "{unlike}");
     Ok(())
 }
 
 #[test]
 fn gaps(rt: HostRuntime) -> Result<(), Fail> {
-    assert_eq!(rt; unlike_places(rt.alloc(), &GAPS_PLACES)?.as_str(), "");
+    let unlike = unlike_places(rt.alloc(), &GAPS_PLACES)?;
+    assert!(rt; unlike.is_empty(), "{unlike}");
     Ok(())
 }
 
 #[test]
 fn annotations(rt: HostRuntime) -> Result<(), Fail> {
-    assert_eq!(rt; unlike_words(rt.alloc(), &ANNOTATIONS_WORDS)?.as_str(), "");
-    assert_eq!(rt;
-        unlike_places(rt.alloc(), &ANNOTATIONS_PLACES)?.as_str(),
-        ""
-    );
+    let unlike = unlike_words(rt.alloc(), &ANNOTATIONS_WORDS)?;
+    assert!(rt; unlike.is_empty(), "{unlike}");
+    let misplaced = unlike_places(rt.alloc(), &ANNOTATIONS_PLACES)?;
+    assert!(rt; misplaced.is_empty(), "{misplaced}");
     Ok(())
 }

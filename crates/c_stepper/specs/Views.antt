@@ -1,0 +1,206 @@
+-- What the stepper's data stand for.
+use Rattle.std.specs.Prelude.{ℕ, ◌≡◌, Bool, false, List, [], ◌∷◌, ℤ, pos, negsuc, Option, None, Some, Result, Ok, Err, map, length, slice_get, unwrap_or}
+use Rattle.std.specs.FinSet.{from_list}
+use Rattle.c_stepper.specs.declared.number.Number.{Number}
+use Rattle.c_stepper.specs.declared.number.Number.TheVariants.{Natural, Negative}
+use Rattle.c_stepper.specs.declared.tree.Expr.{Expr as CodeExpr}
+use Rattle.c_stepper.specs.declared.tree.Expr.TheVariants.{Number as CodeNumber, Load as CodeLoad, Binary' as CodeBinary, Assign' as CodeAssign}
+use Rattle.c_stepper.specs.declared.tree.Stmt.{Stmt as CodeStmt}
+use Rattle.c_stepper.specs.declared.tree.Stmt.TheVariants.{Expression as CodeExpression, Return as CodeReturn, If' as CodeIf, While' as CodeWhile, Block' as CodeBlock, Nothing as CodeNothing}
+use Rattle.c_stepper.specs.declared.tree.Stmts.{Stmts as CodeStmts}
+use Rattle.c_stepper.specs.declared.tree.Stmts.TheVariants.{Done as CodeDone, Next' as CodeNext}
+use Rattle.c_stepper.specs.declared.value.Value.{Value as CodeValue}
+use Rattle.c_stepper.specs.declared.value.Cell.{Cell as CodeCell}
+use Rattle.c_stepper.specs.declared.value.Cell.TheVariants.{Uninit as CodeUninit, Dead as CodeDead, Bit as CodeBit}
+use Rattle.c_stepper.specs.declared.value.Held.{Held as CodeHeld}
+use Rattle.c_stepper.specs.declared.value.Held.TheVariants.{Usable as CodeUsable, Unusable as CodeUnusable, Cells as CodeCells, Absent as CodeAbsent}
+use Rattle.c_stepper.specs.declared.layout.Object.{Object}
+use Rattle.c_stepper.specs.declared.memory.Change.{Change}
+use Rattle.c_stepper.specs.declared.memory.Change.TheVariants.{Written, Born, Died}
+use Rattle.c_stepper.specs.declared.layout.Layout.{Layout as CodeLayout}
+use Rattle.c_stepper.specs.declared.work.Work.{Work as CodeWork}
+use Rattle.c_stepper.specs.declared.work.Work.TheVariants.{Do as CodeDo, Evaluate as CodeEvaluate, Locate as CodeLocate, Fetch as CodeFetch, Store as CodeStore, Apply as CodeApply, Discard as CodeDiscard, Choose as CodeChoose, Loop as CodeLoop, Turn as CodeTurn, Deliver as CodeDeliver, Body as CodeBody, Brace as CodeBrace, Close as CodeClose, Frame as CodeFrame}
+use Rattle.c_stepper.specs.declared.work.State.{State as CodeState}
+use Rattle.c_stepper.specs.declared.work.Outcome.{Outcome as CodeOutcome}
+use Rattle.c_stepper.specs.declared.work.Outcome.TheVariants.{Goes as CodeGoes, Stops as CodeStops, Ends as CodeEnds}
+use Rattle.c_stepper.specs.declared.work.Effect.{Effect}
+use Rattle.c_stepper.specs.declared.work.Effect.TheVariants.{GoesOn as CodeGoesOn, StopsIn as CodeStopsIn, Stuck as CodeStuck}
+use Rattle.c_stepper.specs.declared.work.Left.{Left}
+use Rattle.c_stepper.specs.declared.tree.Function.{Function as CodeFunction}
+use Rattle.c_stepper.specs.declared.tree.ResultType.{ResultType as CodeResultType}
+use Rattle.c_stepper.specs.declared.tree.ResultType.TheVariants.{Void as CodeVoid, Returns as CodeReturns}
+use Rattle.c_stepper.specs.declared.tree.Base.{Base as CodeBase}
+use Rattle.c_stepper.specs.declared.tree.Program.{Program as CodeProgram}
+use Rattle.c_base.specs.declared.kind.Kind.{Kind}
+use Rattle.c_memory.specs.Layouts.{Layout}
+use Rattle.c_memory.specs.Memories.{Memory, with_base, born, died}
+use Rattle.c_memory.specs.Operations.{truth_of}
+use Rattle.c_memory.specs.Values.{Value, Provenance, Cell, Uninit, Dead, Bit}
+use Rattle.c_mean.specs.Machine.{Held, Usable, Unusable, Cells, Absent, Work, Do, Evaluate, Locate, Fetch, Store, Apply, Discard, Choose, Loop, Turn, Deliver, Body, Brace, Close, Frame, sites_of, Exit, State, Outcome, Goes, Stops, Does}
+use Rattle.c_prog.specs.Syntax.{numbers_from, Variable, Expr, Number as NumberExpr, Load, Binary, Assign, Stmt, Expression, Return, If, While, Block, Nothing, Stmts, Done, Next, ResultType, Void, Returns, Base, Function, Program}
+
+abbrev pub number_of : Number → ℤ
+number_of (Natural n) = pos n
+number_of (Negative n) = negsuc n
+
+-- a number, or why there is none
+abbrev pub number_result_of : Result Number Kind → Result ℤ Kind
+number_result_of (Ok n) = Ok (number_of n)
+number_result_of (Err kind) = Err kind
+
+abbrev pub expr_of : CodeExpr → Expr
+expr_of (CodeNumber kind n) = NumberExpr kind (number_of n)
+expr_of (CodeLoad kind base) = Load kind (Variable base)
+expr_of (CodeBinary op kind p a q b) = Binary op kind (expr_of a) (expr_of b)
+expr_of (CodeAssign kind base p e) = Assign kind (Variable base) (expr_of e)
+
+abbrev mutual
+  pub stmt_of : CodeStmt → Stmt
+  stmt_of (CodeExpression id e) = Expression id (expr_of e.value)
+  stmt_of (CodeReturn id e) = Return id (expr_of e.value)
+  stmt_of (CodeIf id e p s q t) = If id (expr_of e.value) (stmt_of s) (stmt_of t)
+  stmt_of (CodeWhile id e p s) = While id (expr_of e.value) (stmt_of s)
+  stmt_of (CodeBlock bases p stmts) = Block bases (stmts_of stmts)
+  stmt_of CodeNothing = Nothing
+
+  pub stmts_of : CodeStmts → Stmts
+  stmts_of CodeDone = Done
+  stmts_of (CodeNext p s q more) = Next (stmt_of s) (stmts_of more)
+
+-- a list of bases stands for their set
+abbrev pub bases_of : List ℕ → Provenance
+bases_of bases = from_list bases
+
+abbrev pub value_of : CodeValue → Value
+value_of v = record { number = number_of v.number; provenance = bases_of v.bases }
+
+abbrev pub value_result_of : Result CodeValue Kind → Result Value Kind
+value_result_of (Ok v) = Ok (value_of v)
+value_result_of (Err kind) = Err kind
+
+abbrev pub cell_of : CodeCell → Cell
+cell_of CodeUninit = Uninit
+cell_of CodeDead = Dead
+cell_of (CodeBit bit bases piece) = Bit bit (bases_of bases) piece
+
+abbrev pub held_of : CodeHeld → Held
+held_of (CodeUsable v) = Usable (value_of v)
+held_of (CodeUnusable kind) = Unusable kind
+held_of (CodeCells cells) = Cells (map cell_of cells)
+held_of CodeAbsent = Absent
+
+abbrev pub cells_option_of : Option (List CodeCell) → Option (List Cell)
+cells_option_of None = None
+cells_option_of (Some cells) = Some (map cell_of cells)
+
+-- a base that isn't listed has no bytes
+abbrev pub object_at : List Object → ℕ → Object
+object_at objects base = unwrap_or (slice_get objects base) (record { address = 0; size = 0; readonly = false })
+
+abbrev pub layout_of : CodeLayout → Layout
+layout_of l = record {
+  machine = l.machine;
+  address = λ base. (object_at l.objects base).address;
+  size = λ base. (object_at l.objects base).size;
+  readonly = λ base. (object_at l.objects base).readonly;
+  bases = numbers_from 0 (length l.objects);
+}
+
+-- the memory after a history of changes, the last change first
+abbrev pub memory_of : Layout → List Change → Memory
+memory_of l [] = λ base. None
+memory_of l (Written base cells ∷ before) = with_base (memory_of l before) base (Some (map cell_of cells))
+memory_of l (Born bases ∷ before) = born l bases (memory_of l before)
+memory_of l (Died bases ∷ before) = died bases (memory_of l before)
+
+-- a store has made this memory, or stops with a kind
+abbrev pub stored_of : Memory → Option Kind → Result Memory Kind
+stored_of m None = Ok m
+stored_of m (Some kind) = Err kind
+
+abbrev pub result_of : CodeResultType → ResultType
+result_of CodeVoid = Void
+result_of (CodeReturns type) = Returns type
+
+abbrev pub work_of : CodeWork → Work
+work_of (CodeDo s) = Do (stmt_of s.value)
+work_of (CodeEvaluate e) = Evaluate (expr_of e.value)
+work_of (CodeLocate base) = Locate (Variable base)
+work_of (CodeFetch type) = Fetch type
+work_of (CodeStore type) = Store type
+work_of (CodeApply op kind) = Apply op kind
+work_of (CodeDiscard id) = Discard id
+work_of (CodeChoose id s t) = Choose id (stmt_of s.value) (stmt_of t.value)
+work_of (CodeLoop id e s) = Loop id (expr_of e.value) (stmt_of s.value)
+work_of (CodeTurn id e s) = Turn id (expr_of e.value) (stmt_of s.value)
+work_of (CodeDeliver id) = Deliver id
+work_of (CodeBody stmts) = Body (stmts_of stmts.value)
+work_of (CodeBrace id result) = Brace id (result_of result)
+work_of (CodeClose bases stmts) = Close bases (stmts_of stmts.value)
+work_of (CodeFrame function site) = Frame function site
+
+abbrev pub control_of : List CodeWork → List Work
+control_of control = map work_of control
+
+abbrev pub state_of : Layout → CodeState → State
+state_of l s = record { control = control_of s.control; held = map held_of s.held; memory = memory_of l s.memory }
+
+-- the way out of a function, of which these objects die and this work is left
+abbrev pub left_of : List ℕ → List Work → Option Left → Option Exit
+left_of dying rest None = None
+left_of dying rest (Some left) = Some (record { dying = dying; function = left.function; site = left.site; rest = rest })
+
+abbrev pub base_of : CodeBase → Base
+base_of b = record { name = b.name; size = b.size; sort = b.sort; readonly = b.readonly }
+
+abbrev pub function_of : CodeFunction → Function
+function_of f = record {
+  base = f.base;
+  result = result_of f.result;
+  formals = f.formals;
+  locals = f.locals;
+  body = stmts_of f.body.value;
+  end = f.end;
+}
+
+abbrev pub program_of : CodeProgram → Program
+program_of p = record {
+  machine = p.machine;
+  bases = map base_of p.bases;
+  functions = map function_of p.functions;
+  entry = p.entry;
+  spans = p.spans;
+}
+
+abbrev pub state_option_of : Layout → Option CodeState → Option State
+state_option_of l None = None
+state_option_of l (Some s) = Some (state_of l s)
+
+abbrev pub function_option_of : Option CodeFunction → Option Function
+function_option_of None = None
+function_option_of (Some f) = Some (function_of f)
+
+-- what a part of a step does: the state is the next one, or the step stops in a statement, or there is none
+abbrev pub Answers : (Outcome → Type 0) → State → Effect → Type 0
+Answers R t CodeGoesOn = R (Goes t)
+Answers R t (CodeStopsIn kind id) = R (Stops kind id (sites_of t.control))
+Answers R t CodeStuck = (out : Outcome) → R out → ⊥
+
+-- an item of work goes on so from a state without it
+abbrev pub HasEffect : CodeLayout → Work → CodeState → CodeState → Effect → Type 0
+HasEffect l work s t effect =
+    Answers (Does (layout_of l) work (map held_of s.held) (state_of (layout_of l) s)) (state_of (layout_of l) t) effect
+
+-- a part of a step that is a function of the state goes on so
+abbrev pub Leads : CodeLayout → (State → Outcome) → CodeState → CodeState → Effect → Type 0
+Leads l f s t effect = Answers (λ out. out ≡ f (state_of (layout_of l) s)) (state_of (layout_of l) t) effect
+
+abbrev pub truth_result_of : Result Value Kind → Result Bool Kind
+truth_result_of (Ok v) = Ok (truth_of v)
+truth_result_of (Err kind) = Err kind
+
+-- the same of a whole step
+abbrev pub IsStep : (Outcome → Type 0) → State → CodeOutcome → Type 0
+IsStep R t CodeGoes = R (Goes t)
+IsStep R t (CodeStops kind id sites) = R (Stops kind id sites)
+IsStep R t CodeEnds = (out : Outcome) → R out → ⊥

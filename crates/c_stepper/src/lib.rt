@@ -1,0 +1,12 @@
+//! A stepper that carries out the meaning of programs (`specs/Machine.antt` of c_mean), one step after the other.
+#![tactic(auto)]
+
+pub mod layout;
+pub mod memory;
+pub mod number;
+pub mod stack;
+pub mod start;
+pub mod stepper;
+pub mod tree;
+pub mod value;
+pub mod work;

@@ -1,0 +1,313 @@
+//! Where the objects of a program stand, and memories.
+
+ghost use Rattle.std.specs.Prelude.{◌≡◌, [], ◌==◌, ◌*◌, ◌+◌, ◌<◌, ◌≤◌, ◌^◌, length, map, take, drop, replicate, find, unwrap_or, IfOk, OnOk};
+ghost use Rattle.std.specs.List.{list_any};
+ghost use Rattle.c_memory.specs.Scalars as scalars;
+ghost use Rattle.c_prog.specs.Syntax.{numbers_from};
+ghost use Rattle.c_memory.specs.Values as values;
+ghost use Rattle.c_memory.specs.Memories as memories;
+ghost use Rattle.c_stepper.specs.Views.{number_of, value_of, cell_of, cells_option_of, value_result_of, layout_of, object_at, memory_of, stored_of};
+
+use crate::layout::{Layout, Object};
+use crate::number::{Number, size_of_scalar};
+use crate::stack::Stack;
+use crate::value::{Cell, Value, add_cells, cells_of, contains, is_named, value_in, withered};
+use c_base::kind::Kind;
+use c_memory::scalar::Scalar;
+use sqlite_items::Items;
+use std::alloc::{AllocError, Global};
+
+/// What has happened to memory: the cells of a base were written, objects were born, or objects died.
+#[derive(Drop)]
+pub enum Change {
+    Written(u32, Items<Cell>),
+    Born(Items<u32>),
+    Died(Items<u32>),
+}
+
+/// A memory as its history, the last change on top. Before the first one nothing lives.
+pub type Memory = Stack<Change>;
+
+pub(crate) fn object(layout: &Layout, base: u32) -> Object
+    ensures { result ≡ object_at layout.now.objects base }
+{
+    match layout.objects.get(base as usize) {
+        Some(found) => *found,
+        None => Object {
+            address: 0,
+            size: 0,
+            readonly: false,
+        },
+    }
+}
+
+pub(crate) fn address_of(alloc: Global, layout: &Layout, base: u32) -> Result<Value, AllocError>
+    ensures { IfOk result (λ value. value_of value ≡ memories.address_of (layout_of layout.now) base) }
+{
+    Ok(Value {
+        number: Number::Natural(object(layout, base).address),
+        bases: Items::from_slice(alloc, &[base])?,
+    })
+}
+
+fn unwritten(alloc: Global, bytes: u32) -> Result<Items<Cell>, AllocError>
+    ensures { IfOk result (λ cells. map cell_of cells ≡ replicate (8 * bytes) values.Uninit) }
+{
+    let mut cells = Items::new(alloc);
+    for _ in 0..8 * bytes as u64 {
+        cells.push(Cell::Uninit)?;
+    }
+    Ok(cells)
+}
+
+/// The cells of a base, if it lives.
+pub fn cells_in(
+    alloc: Global,
+    layout: &Layout,
+    changes: &[Change],
+    base: u32,
+) -> Result<Option<Items<Cell>>, AllocError>
+    ensures { IfOk result (λ cells. cells_option_of cells ≡ memory_of (layout_of layout.now) changes.now
+        base) }
+{
+    if changes.is_empty() {
+        return Ok(None);
+    }
+    match &changes[0] {
+        Change::Written(other, cells) => {
+            if base == *other {
+                let mut copy = Items::new(alloc);
+                add_cells(alloc, &mut copy, cells.as_slice())?;
+                return Ok(Some(copy));
+            }
+            cells_in(alloc, layout, &changes[1..], base)
+        }
+        Change::Born(bases) => {
+            if is_named(bases.as_slice(), base) {
+                return Ok(Some(unwritten(alloc, object(layout, base).size)?));
+            }
+            cells_in(alloc, layout, &changes[1..], base)
+        }
+        Change::Died(bases) => {
+            if is_named(bases.as_slice(), base) {
+                return Ok(None);
+            }
+            match cells_in(alloc, layout, &changes[1..], base)? {
+                Some(cells) => Ok(Some(withered(alloc, bases.as_slice(), cells.as_slice())?)),
+                None => Ok(None),
+            }
+        }
+    }
+}
+
+/// An access of so many bytes at the address lies in the base.
+fn is_within(layout: &Layout, bytes: u32, base: u32, at: Number) -> bool
+    ensures { result ≡ memories.is_within (layout_of layout.now) bytes base (number_of at) }
+{
+    let whole = object(layout, base);
+    match at {
+        Number::Natural(n) => whole.address <= n
+            && (n - whole.address) as u128 + bytes as u128 <= whole.size as u128,
+        Number::Negative(_) => false,
+    }
+}
+
+fn is_reached(
+    alloc: Global,
+    layout: &Layout,
+    memory: &Memory,
+    bytes: u32,
+    at: &Value,
+    base: u32,
+) -> Result<bool, AllocError>
+    ensures { IfOk result (λ is. is ≡ memories.is_reached (layout_of layout.now) (memory_of (layout_of
+        layout.now) memory.now) bytes (value_of at.now) base) }
+{
+    if !contains(at.bases.as_slice(), base) {
+        return Ok(false);
+    }
+    match cells_in(alloc, layout, memory.as_slice(), base)? {
+        Some(_) => Ok(is_within(layout, bytes, base, at.number)),
+        None => Ok(false),
+    }
+}
+
+/// The first base, from `base` on, that the access reaches.
+fn reached_from(
+    alloc: Global,
+    layout: &Layout,
+    memory: &Memory,
+    bytes: u32,
+    at: &Value,
+    base: u32,
+    count: u32,
+) -> Result<Option<u32>, AllocError>
+    requires { base + count < 2 ^ 32 }
+    ensures { IfOk result (λ found. found ≡ find (memories.is_reached (layout_of layout.now) (memory_of
+        (layout_of layout.now) memory.now) bytes (value_of at.now)) (numbers_from base count)) }
+{
+    if count == 0 {
+        return Ok(None);
+    }
+    if is_reached(alloc, layout, memory, bytes, at, base)? {
+        return Ok(Some(base));
+    }
+    reached_from(alloc, layout, memory, bytes, at, base + 1, count - 1)
+}
+
+/// The base that an access of the type reaches.
+fn reached(
+    alloc: Global,
+    layout: &Layout,
+    memory: &Memory,
+    scalar: Scalar,
+    at: &Value,
+) -> Result<Option<u32>, AllocError>
+    ensures { IfOk result (λ found. found ≡ memories.reached (layout_of layout.now) (memory_of (layout_of
+        layout.now) memory.now) (scalars.size_of_scalar scalar layout.now.machine) (value_of at.now)) }
+{
+    reached_from(
+        alloc,
+        layout,
+        memory,
+        size_of_scalar(scalar, layout.machine),
+        at,
+        0,
+        layout.objects.len() as u32,
+    )
+}
+
+/// The bit of the base at which the access begins.
+fn first_bit(layout: &Layout, base: u32, at: &Value) -> u128
+    ensures value { result ≡ 8 * memories.offset_in (layout_of layout.now) base (value_of at.now) }
+    ensures small { result ≤ 2 ^ 80 }
+{
+    match at.number {
+        Number::Natural(n) => 8 * n.saturating_sub(object(layout, base).address) as u128,
+        Number::Negative(_) => 0,
+    }
+}
+
+fn front(cells: &[Cell], count: u128) -> &[Cell]
+    ensures value { result.now ≡ take count cells.now }
+    ensures short { length result.now ≤ count }
+{
+    if count < cells.len() as u128 {
+        &cells[..count as usize]
+    } else {
+        cells
+    }
+}
+
+fn back(cells: &[Cell], count: u128) -> &[Cell]
+    ensures { result.now ≡ drop count cells.now }
+{
+    if count < cells.len() as u128 {
+        &cells[count as usize..]
+    } else {
+        &[]
+    }
+}
+
+/// The cells of a base, or none if it doesn't live.
+fn cells_or_none(
+    alloc: Global,
+    layout: &Layout,
+    memory: &Memory,
+    base: u32,
+) -> Result<Items<Cell>, AllocError>
+    ensures { IfOk result (λ cells. map cell_of cells ≡ unwrap_or (memory_of (layout_of layout.now)
+        memory.now base) []) }
+{
+    match cells_in(alloc, layout, memory.as_slice(), base)? {
+        Some(cells) => Ok(cells),
+        None => Ok(Items::new(alloc)),
+    }
+}
+
+/// What a load through the address gives, or why it stops.
+pub(crate) fn loaded(
+    alloc: Global,
+    layout: &Layout,
+    memory: &Memory,
+    scalar: Scalar,
+    at: &Value,
+) -> Result<Result<Value, Kind>, AllocError>
+    ensures { IfOk result (λ value. value_result_of value ≡ memories.loaded (layout_of layout.now)
+        (memory_of (layout_of layout.now) memory.now) scalar (value_of at.now)) }
+{
+    match reached(alloc, layout, memory, scalar, at)? {
+        None => Ok(Err(Kind::MemAccess)),
+        Some(base) => {
+            let cells = cells_or_none(alloc, layout, memory, base)?;
+            let read = front(
+                back(cells.as_slice(), first_bit(layout, base, at)),
+                8 * size_of_scalar(scalar, layout.machine) as u128,
+            );
+            value_in(alloc, layout.machine, scalar, read)
+        }
+    }
+}
+
+fn overwritten(
+    alloc: Global,
+    old: &[Cell],
+    first: u128,
+    new: Items<Cell>,
+) -> Result<Items<Cell>, AllocError>
+    requires { first ≤ 2 ^ 80 }
+    ensures { IfOk result (λ cells. map cell_of cells ≡ memories.overwritten (map cell_of old.now) first
+        (map cell_of new)) }
+{
+    let end = first + new.len() as u128;
+    let mut cells = Items::new(alloc);
+    add_cells(alloc, &mut cells, front(old, first))?;
+    cells.append(new)?;
+    add_cells(alloc, &mut cells, back(old, end))?;
+    Ok(cells)
+}
+
+/// Writes the value over the base's cells from the address on.
+fn write(
+    alloc: Global,
+    layout: &Layout,
+    memory: &mut Memory,
+    scalar: Scalar,
+    base: u32,
+    at: &Value,
+    value: &Value,
+) -> Result<(), AllocError>
+    ensures { OnOk result (memory_of (layout_of layout.now) memory.new ≡ memories.written_at (layout_of
+        layout.now) (memory_of (layout_of layout.now) memory.old) scalar (value_of at.now) (value_of
+        value.now) base) }
+{
+    let old = cells_or_none(alloc, layout, memory, base)?;
+    let new = cells_of(alloc, layout.machine, scalar, value)?;
+    let cells = overwritten(alloc, old.as_slice(), first_bit(layout, base, at), new)?;
+    memory.push(Change::Written(base, cells))
+}
+
+/// Stores through the address, or answers why the store stops.
+pub(crate) fn store(
+    alloc: Global,
+    layout: &Layout,
+    memory: &mut Memory,
+    scalar: Scalar,
+    at: &Value,
+    value: &Value,
+) -> Result<Option<Kind>, AllocError>
+    ensures { IfOk result (λ stop. stored_of (memory_of (layout_of layout.now) memory.new) stop ≡
+        memories.stored (layout_of layout.now) (memory_of (layout_of layout.now) memory.old) scalar
+        (value_of at.now) (value_of value.now)) }
+{
+    match reached(alloc, layout, memory, scalar, at)? {
+        None => Ok(Some(Kind::MemAccess)),
+        Some(base) => {
+            if object(layout, base).readonly {
+                return Ok(Some(Kind::MemAccess));
+            }
+            write(alloc, layout, memory, scalar, base, at, value)?;
+            Ok(None)
+        }
+    }
+}
