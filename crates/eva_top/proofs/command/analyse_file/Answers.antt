@@ -13,7 +13,7 @@ pub returns-in-Err-TooLong-clause-answer : goal.returns-in-Err-TooLong-clause-an
 returns-in-Err-TooLong-clause-answer g c = λ call words told before after out notes.
     let long = rw c.in-Err-TooLong.field-0-is at c.in-Err-TooLong.ensures.too_long in
     note_put call TooLong _ _ _ c.note-in-Err-TooLong.result notes (untouched call.out _ out)
-    (c.args.name.now, record { word = words; long = rw told long }, refl) (c.note-in-Err-TooLong.ensures _ c.make_named_text-text-2.ensures)
+    (c.args.name.now, record { word = words; long = rw told long }, refl) (c.note-in-Err-TooLong.ensures _ c.make_named_text-text-in-Err-TooLong.ensures)
 
 pub returns-in-Err-Memory-clause-answer : goal.returns-in-Err-Memory-clause-answer
 returns-in-Err-Memory-clause-answer g c = λ call words told before after out notes.
