@@ -1,9 +1,9 @@
-use crate::file_store::FileStore;
-use crate::mem_sink::MemSink;
-use crate::mem_store::MemStore;
-use crate::sink::{PutFault, Sink, write_whole};
-use crate::std_sink::StdSink;
-use crate::store::{LoadFault, Store};
+use eva_io::file_store::FileStore;
+use eva_io::mem_sink::MemSink;
+use eva_io::mem_store::MemStore;
+use eva_io::sink::{PutFault, Sink, write_whole};
+use eva_io::std_sink::StdSink;
+use eva_io::store::{LoadFault, Store};
 use c_base::name::Name;
 use std::alloc::{AllocError, Global};
 use std::fmt::Display;
