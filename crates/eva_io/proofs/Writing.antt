@@ -2,7 +2,7 @@
 use Rattle.std.proofs.Common.{◌≡◌, ℕ, ◌+◌, ◌-◌, ◌<◌, List, ◌++◌, Option, None, Some, length, take, drop, ap, arith, append_assoc, length-drop}
 use Rattle.std.proofs.lemmas.List.{take-append-drop, take_all}
 use Rattle.std.proofs.Math.Seq.{take-add}
-use Rattle.eva_io.specs.Outside.{Appended, AppendedInPart}
+use Rattle.eva_io.specs.Outside.{SinkState, KeepsCounts, Appended, AppendedInPart}
 
 -- one piece, and then another
 pub appended_both : (before between now : Option (List ℕ)) (first second : List ℕ) →
@@ -35,3 +35,7 @@ refused_in_part before between now bytes done short here same = record {
   unwritten = λ none. absurd (omega (arith, length-drop done bytes, ap length none));
   appended = rw same here;
 }
+
+-- no count falls over two calls
+pub kept_longer : (before between now : SinkState) → KeepsCounts before between → KeepsCounts between now → KeepsCounts before now
+kept_longer before between now here there = record { faults = omega arith; starved = omega arith }

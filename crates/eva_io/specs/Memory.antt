@@ -8,6 +8,7 @@ use Rattle.eva_io.specs.declared.store.LoadFault.{LoadFault}
 use Rattle.eva_io.specs.declared.store.LoadFault.TheVariants.{Failed as LoadFailed, TooLong, Memory as LoadMemory}
 use Rattle.eva_io.specs.declared.sink.PutFault.{PutFault}
 use Rattle.eva_io.specs.declared.sink.PutFault.TheVariants.{Failed as PutFailed, Memory as PutMemory}
+use Rattle.eva_io.specs.Outside.{SinkState}
 
 -- whether the list has this number
 abbrev pub is_listed : List ℕ → ℕ → Bool
@@ -28,6 +29,12 @@ abbrev pub PutCounts : {A : Type 0} → Result A PutFault → ℕ → ℕ → Ty
 PutCounts (Ok x) before now = now ≡ before
 PutCounts (Err PutFailed) before now = now ≡ next_count before
 PutCounts (Err PutMemory) before now = now ≡ before
+
+-- a put in which memory was wanting raised the count of such puts by one, and no other changed it
+abbrev pub PutStarves : {A : Type 0} → Result A PutFault → ℕ → ℕ → Type 0
+PutStarves (Ok x) before now = now ≡ before
+PutStarves (Err PutFailed) before now = now ≡ before
+PutStarves (Err PutMemory) before now = now ≡ next_count before
 
 -- whether an entry is of this name
 abbrev pub is_named : {X : Type 0} → List ℕ → List ℕ × X → Bool
@@ -65,10 +72,16 @@ pub record Files : Type 0 where
   pub calls : ℕ
   pub faults : List (List ℕ × ℕ)
 
--- a sink: its bytes, how many it takes at once, the calls that are to fail, the calls so far, and the faults
+-- a sink: its bytes, how many it takes at once, the calls that are to fail, the calls so far, the faults, and the puts in which memory
+-- was wanting
 pub record Tape : Type 0 where
   pub bytes : List ℕ
   pub step : ℕ
   pub failing : List ℕ
   pub calls : ℕ
   pub faults : ℕ
+  pub starved : ℕ
+
+-- what such a sink tells
+abbrev pub state_of : Tape → SinkState
+state_of tape = record { written = Some tape.bytes; faults = tape.faults; starved = tape.starved }

@@ -35,11 +35,29 @@ LoadCounts (Err LoadFailed) before now = Rose before now
 LoadCounts (Err TooLong) before now = now ≡ before
 LoadCounts (Err LoadMemory) before now = now ≡ before
 
+-- what a sink tells: the bytes that were put so far, where it tells them; how often a put failed; and in how many puts memory was
+-- wanting
+pub record SinkState : Type 0 where
+  pub written : Option (List ℕ)
+  pub faults : ℕ
+  pub starved : ℕ
+
+-- no count falls
+pub record KeepsCounts (before now : SinkState) : Type 0 where
+  pub faults : before.faults ≤ now.faults
+  pub starved : before.starved ≤ now.starved
+
 -- P, if a put failed
 abbrev pub OnPutFailed : {A : Type 0} → Result A PutFault → Type 0 → Type 0
 OnPutFailed (Ok x) P = ⊤
 OnPutFailed (Err PutFailed) P = P
 OnPutFailed (Err PutMemory) P = ⊤
+
+-- P, if memory was wanting in a put
+abbrev pub OnPutStarved : {A : Type 0} → Result A PutFault → Type 0 → Type 0
+OnPutStarved (Ok x) P = ⊤
+OnPutStarved (Err PutFailed) P = ⊤
+OnPutStarved (Err PutMemory) P = P
 
 -- what a sink told before, and then the piece; where it told nothing, nothing is claimed
 abbrev pub Appended : Option (List ℕ) → List ℕ → Option (List ℕ) → Type 0

@@ -10,5 +10,3 @@ pub mod mem_store;
 pub mod sink;
 pub mod std_sink;
 pub mod store;
-#[cfg(test)]
-mod tests;

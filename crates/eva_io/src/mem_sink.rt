@@ -1,5 +1,6 @@
 ghost use Rattle.std.specs.Prelude.{◌≡◌, ◌+◌, ◌≤◌, ◌<◌, [], ◌++◌, length, take, min, Some, IfOk, OnErr};
-ghost use Rattle.eva_io.specs.Memory.{is_listed, next_count, PutFails, PutCounts};
+ghost use Rattle.eva_io.specs.Memory.{is_listed, next_count, PutFails, PutCounts, PutStarves, state_of};
+ghost use Rattle.eva_io.specs.Outside.{KeepsCounts};
 
 use crate::calls::Calls;
 use crate::sink::{PutFault, Sink};
@@ -16,6 +17,7 @@ pub struct MemSink {
     step: usize,
     calls: Calls,
     faults: u64,
+    starved: u64,
 }
 
 impl Model for MemSink {
@@ -30,6 +32,7 @@ impl Model for MemSink {
       failing = sink.calls.failing.items;
       calls = sink.calls.made;
       faults = sink.faults;
+      starved = sink.starved;
     } };
 
     ghost invariant = { λ sink. 1 ≤ sink.step };
@@ -45,6 +48,7 @@ impl MemSink {
           failing = failing.items;
           calls = 0;
           faults = 0;
+          starved = 0;
         } }
     {
         MemSink {
@@ -52,6 +56,7 @@ impl MemSink {
             step,
             calls: Calls { failing, made: 0 },
             faults: 0,
+            starved: 0,
         }
     }
 
@@ -64,9 +69,7 @@ impl MemSink {
 }
 
 impl Sink for MemSink {
-    ghost written = { λ sink. Some sink.bytes };
-
-    ghost fault_count = { λ sink. sink.faults };
+    ghost state = { state_of };
 
     /// Fails exactly where this call is listed, unless memory is wanting.
     fn put(&mut self, piece: &[u8]) -> Result<usize, PutFault>
@@ -77,7 +80,8 @@ impl Sink for MemSink {
         ensures refused { OnErr result (self.new.bytes ≡ self.old.bytes) }
         ensures fails { PutFails result (is_listed self.old.failing (self.old.calls + 1)) }
         ensures faults { PutCounts result self.old.faults self.new.faults }
-        ensures grows { self.old.faults ≤ self.new.faults }
+        ensures starved { PutStarves result self.old.starved self.new.starved }
+        ensures counted { KeepsCounts (state_of self.old) (state_of self.new) }
         ensures calls { self.new.calls ≡ next_count self.old.calls }
         ensures step { self.new.step ≡ self.old.step }
         ensures failing { self.new.failing ≡ self.old.failing }
@@ -89,7 +93,10 @@ impl Sink for MemSink {
         let taken = self.step.min(piece.len());
         match self.bytes.extend_from_slice(&piece[..taken]) {
             Ok(()) => Ok(taken),
-            Err(_) => Err(PutFault::Memory),
+            Err(_) => {
+                self.starved = self.starved.saturating_add(1);
+                Err(PutFault::Memory)
+            }
         }
     }
 

@@ -46,9 +46,11 @@ impl StdSink<Stderr> {
 }
 
 impl<R: Print> Sink for StdSink<R> {
-    ghost written = { λ _. None };
-
-    ghost fault_count = { λ sink. sink };
+    ghost state = { λ sink. record {
+      written = None;
+      faults = sink;
+      starved = 0;
+    } };
 
     fn put(&mut self, piece: &[u8]) -> Result<usize, PutFault> {
         match self.stream.write_some(piece) {

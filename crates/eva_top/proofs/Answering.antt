@@ -6,26 +6,20 @@ use Rattle.first_program.specs.Source.{Program}
 use Rattle.first_program.specs.SourceViews.{IsShaped}
 use Rattle.first_program.specs.Meaning.{meaning_of}
 use Rattle.c_lex.specs.Lexing.{AreAnswered}
-use Rattle.first_analysis.specs.declared.place.Place.{Place}
-use Rattle.first_analysis.specs.Tables.{IsAnalysis}
 use Rattle.std.specs.Fmt.{decimal}
 use Rattle.std.proofs.lemmas.Fmt.{decimal_digit}
 use Rattle.std.proofs.lemmas.List.{length-append}
 use lib.Chars.{codes}
-use Rattle.eva_io.specs.Outside.{HeldWhereTold}
+use Rattle.eva_io.specs.Outside.{SinkState, HeldWhereTold}
 use Rattle.first_language.specs.Language.{Spells}
 use Rattle.c_base.specs.declared.token.LexSort.{LexSort}
 use Rattle.eva_top.specs.declared.status.Refusal.TheVariants.{Form, Lex, Limit}
 use Rattle.eva_top.specs.declared.status.Status.{Status}
 use Rattle.eva_top.specs.declared.status.Status.TheVariants.{Clean, Alarmed, Usage, Unread, Refused, Unwritten, Memory, TooLong}
-use Rattle.eva_top.specs.Report.{report_text, line_end}
-use Rattle.eva_top.specs.Sound.{names_of}
-use Rattle.eva_top.specs.Rows.{report_of}
-use Rattle.eva_top.specs.Answers.{Sunk, Call, IsRead, IsSource, IsForm, IsLex, IsBeyond, IsReportText, IsReportOf, IsNote, IsUntouched, IsWritten, Answers, Puts, whole, failed, starved, PutsNote, memory_note, sunk, status_of, IsReportOrMemory, IsGood, most_bytes, span_text}
-use Rattle.eva_top.proofs.Soundness.{sound, complete}
+use Rattle.eva_top.specs.Answers.{Sunk, Call, IsRead, IsSource, IsForm, IsLex, IsBeyond, IsReportText, IsNote, IsUntouched, IsWritten, Answers, Puts, whole, failed, starved, PutsNote, memory_note, sunk, status_of, IsReportOrMemory, IsGood, most_bytes}
 
-pub untouched : (s : Sunk) (told : Option (List ℕ)) (faults_before faults_after : ℕ) → s ≡ sunk told told faults_before faults_after → IsUntouched s
-untouched s told faults_before faults_after e = rw e refl
+pub untouched : (s : Sunk) (state : SinkState) → s ≡ sunk state state → IsUntouched s
+untouched s state e = rw e refl
 
 -- a note that is written whole is the answer's
 noted_whole : (c : Call) (status : Status) (text : List ℕ) → IsNote c status text → IsWritten c.notes text → IsUntouched c.out → Answers c status
@@ -38,48 +32,27 @@ noted_whole c Unwritten text note written out = absurd note
 noted_whole c Memory text note written out = inl (text, note, written, out)
 noted_whole c TooLong text note written out = (text, note, written, out)
 
-module _ (c : Call) (text : List ℕ) (before after : Option (List ℕ)) (faults_before faults_after : ℕ) where
-  pub noted : (status result : Status) → c.notes ≡ sunk before after faults_before faults_after → IsNote c status text → IsUntouched c.out →
-      Puts status text before after faults_before faults_after result → Answers c result
+module _ (c : Call) (text : List ℕ) (before after : SinkState) where
+  pub noted : (status result : Status) → c.notes ≡ sunk before after → IsNote c status text → IsUntouched c.out → Puts status text (sunk before after) result → Answers c result
   noted status result e note out (whole w) = noted_whole c status text note (rw e w) out
   noted status result e note out (failed part rose) =
       inr (record { status = status; text = text; is = note; part = rw e part; other = out }, rw e rose)
-  noted status result e note out (starved part) = inr (inr (record { status = status; text = text; is = note; part = rw e part; other = out }))
+  noted status result e note out (starved part rose) =
+      inr (inr (record { status = status; text = text; is = note; part = rw e part; other = out }, rw e rose))
 
-  pub reported : (alarmed : Bool) (result : Status) → c.out ≡ sunk before after faults_before faults_after → IsReportText c alarmed text → IsUntouched c.notes →
-      Puts (status_of alarmed) text before after faults_before faults_after result → Answers c result
+  pub reported : (alarmed : Bool) (result : Status) → c.out ≡ sunk before after → IsReportText c alarmed text → IsUntouched c.notes →
+      Puts (status_of alarmed) text (sunk before after) result → Answers c result
   reported true result e is notes (whole w) = (text, is, rw e w, notes)
   reported false result e is notes (whole w) = (text, is, rw e w, notes)
   reported alarmed result e is notes (failed part rose) =
       inl (record { alarmed = alarmed; text = text; is = is; part = rw e part; other = notes }, rw e rose)
-  reported alarmed result e is notes (starved part) = inr (inl (record { alarmed = alarmed; text = text; is = is; part = rw e part; other = notes }))
+  reported alarmed result e is notes (starved part rose) =
+      inr (inl (record { alarmed = alarmed; text = text; is = is; part = rw e part; other = notes }, rw e rose))
 
-pub memory_noted : (c : Call) (before after : Option (List ℕ)) (faults_before faults_after : ℕ) (result : Status) → c.notes ≡ sunk before after faults_before faults_after →
-    IsUntouched c.out → PutsNote Memory memory_note before after faults_before faults_after result → Answers c result
-memory_noted c before after faults_before faults_after result e out (inl put) = noted c memory_note before after faults_before faults_after Memory result e refl out put
-memory_noted c before after faults_before faults_after result e out (inr put) = noted c memory_note before after faults_before faults_after Memory result e refl out put
-
-pub name_noted : (c : Call) (status : Status) (text : List ℕ) (before after : Option (List ℕ)) (faults_before faults_after : ℕ) (result : Status) →
-    c.notes ≡ sunk before after faults_before faults_after → IsUntouched c.out → IsNote c status text → PutsNote status text before after faults_before faults_after result → Answers c result
-name_noted c status text before after faults_before faults_after result e out note (inl put) = noted c text before after faults_before faults_after status result e note out put
-name_noted c status text before after faults_before faults_after result e out note (inr put) = noted c memory_note before after faults_before faults_after Memory result e refl out put
-
--- the report of a program
-pub report_made : (p : Program) (places : List Place) (text : List ℕ) (alarmed : Bool) → IsShaped p → IsAnalysis p places →
-    text ≡ report_text (names_of (meaning_of p)) (report_of p places) → (IsTrue alarmed ↔ ((report_of p places).alarms ≢ [])) → IsReportOf p alarmed text
-report_made p places text alarmed shaped an is flag =
-    let many : length places ≡ length p.spans = let t = an.table in let a = t.many in let b = shaped.places in let l = ap length t.whole in omega (arith, simp length-append at l) in
-    record {
-      report = report_of p places;
-      sound = sound p places shaped an (omega arith);
-      complete = complete p places many;
-      is_text = is;
-      flag = flag;
-    }
-
--- the note of a refusal whose hint is the beginning of the file
-pub form_text : codes "refused: form at 1:1" ++ line_end ≡ codes "refused: form at " ++ span_text (record { line = 1; col = 1 }) ++ line_end
-form_text = let one : decimal 1 ≡ 49 ∷ [] = decimal_digit 1 (omega arith) in rw one refl
+pub note_put : (c : Call) (status : Status) (text : List ℕ) (before after : SinkState) (result : Status) → c.notes ≡ sunk before after → IsUntouched c.out → IsNote c status text →
+    PutsNote status text (sunk before after) result → Answers c result
+note_put c status text before after result e out note (inl put) = noted c text before after status result e note out put
+note_put c status text before after result e out note (inr put) = noted c memory_note before after Memory result e refl out put
 
 -- ---- the words of a call
 

@@ -1,12 +1,12 @@
 -- What an answer of the command promises.
-use Rattle.std.specs.Prelude.{ℕ, ◌<◌, ◌≤◌, ◌≡◌, ◌≢◌, ◌⊎◌, ◌↔◌, Bool, true, false, IsTrue, List, [], ◌∷◌, ◌++◌, length, Option, Some, ⊤}
+use Rattle.std.specs.Prelude.{ℕ, ◌<◌, ◌≤◌, ◌≡◌, ◌≢◌, ◌⊎◌, Bool, true, false, List, [], ◌∷◌, ◌++◌, length, Option, Some, ⊤}
 use Rattle.std.specs.Fmt.{decimal}
 use lib.Chars.{codes}
 use Rattle.c_base.specs.declared.number.Span.{Span}
 use Rattle.c_base.specs.declared.token.Token.{Token}
 use Rattle.first_program.specs.Source.{Program}
 use Rattle.first_program.specs.Meaning.{meaning_of}
-use Rattle.eva_io.specs.Outside.{Rose, HeldWhereTold, Appended, AppendedInPart}
+use Rattle.eva_io.specs.Outside.{Rose, SinkState, HeldWhereTold, Appended, AppendedInPart}
 use Rattle.c_lex.specs.declared.fault.LexFault.{LexFault}
 use Rattle.c_lex.specs.declared.fault.LexFault.TheVariants.{BadByte as BadByteFault, OpenComment as OpenCommentFault, OpenString as OpenStringFault, BadNumber as BadNumberFault}
 use Rattle.c_lex.specs.Lexing.{AreAnswered, IsRefusedFor, AreTooMany}
@@ -16,15 +16,13 @@ use Rattle.c_base.specs.declared.token.LexSort.TheVariants.{BadByte, OpenComment
 use Rattle.eva_top.specs.declared.status.Refusal.TheVariants.{Form, Lex, Limit}
 use Rattle.eva_top.specs.declared.status.Status.{Status}
 use Rattle.eva_top.specs.declared.status.Status.TheVariants.{Clean, Alarmed, Usage, Unread, Refused, Unwritten, Memory, TooLong}
-use Rattle.eva_top.specs.Report.{Report, report_text, line_end}
-use Rattle.eva_top.specs.Sound.{IsSound, IsComplete, names_of}
+use Rattle.eva_report.specs.Report.{line_end}
+use Rattle.eva_claim.specs.Claims.{IsReportOf}
 
--- what a sink told before the call and tells after it, and its counts of faults
+-- a sink before the call and after it
 pub record Sunk : Type 0 where
-  pub before : Option (List ℕ)
-  pub after : Option (List ℕ)
-  pub faults_before : ℕ
-  pub faults_after : ℕ
+  pub before : SinkState
+  pub after : SinkState
 
 -- a call: its words, what the store told, the counts of its failed loads before and after, and the two sinks
 pub record Call : Type 0 where
@@ -88,28 +86,23 @@ pub record IsBeyond (c : Call) (limit found : ℕ) : Type 0 where
   pub read : IsRead c bytes
   pub many : AreTooMany bytes found
 
--- The text is that of a report of the program: complete, with rows and alarms that cover every run of every layout, and with an alarm
--- exactly where the flag says so.
-pub record IsReportOf (p : Program) (alarmed : Bool) (text : List ℕ) : Type 0 where
-  pub report : Report
-  pub sound : IsSound (meaning_of p) report
-  pub complete : IsComplete (meaning_of p) report
-  pub is_text : text ≡ report_text (names_of (meaning_of p)) report
-  pub flag : IsTrue alarmed ↔ (report.alarms ≢ [])
-
 -- the text is that of a report of the program that the file spells
 pub record IsReportText (c : Call) (alarmed : Bool) (text : List ℕ) : Type 0 where
   pub bytes : List ℕ
   pub program : Program
   pub read : IsRead c bytes
   pub source : IsSource bytes program
-  pub report : IsReportOf program alarmed text
+  pub report : IsReportOf (meaning_of program) alarmed text
 
-abbrev pub span_text : Span → List ℕ
-span_text at = decimal at.line ++ codes ":" ++ decimal at.col
+-- a place, and the end of its line
+unfoldable pub at_text : Span → List ℕ
+at_text at = codes " at " ++ decimal at.line ++ codes ":" ++ decimal at.col ++ line_end
 
 abbrev pub memory_note : List ℕ
 memory_note = codes "out of memory" ++ line_end
+
+abbrev pub usage_note : List ℕ
+usage_note = codes "usage: eva FILE" ++ line_end
 
 abbrev pub sort_name : LexSort → List ℕ
 sort_name BadByte = codes "bad byte"
@@ -117,34 +110,49 @@ sort_name OpenComment = codes "open comment"
 sort_name OpenString = codes "open string"
 sort_name BadNumber = codes "bad number"
 
+unfoldable pub form_text : Span → List ℕ
+form_text at = codes "refused: form" ++ at_text at
+
 unfoldable pub lex_text : LexSort → Span → List ℕ
-lex_text sort at = codes "refused: lex " ++ sort_name sort ++ codes " at " ++ span_text at ++ line_end
+lex_text sort at = codes "refused: lex " ++ sort_name sort ++ at_text at
 
 unfoldable pub limit_text : ℕ → ℕ → List ℕ
 limit_text limit found = codes "refused: limit " ++ decimal limit ++ codes " found " ++ decimal found ++ line_end
+
+-- a line that ends in a name
+unfoldable pub named_text : List ℕ → List ℕ → List ℕ
+named_text head name = head ++ name ++ line_end
 
 -- the note of an answer, with its cause
 abbrev pub IsNote : Call → Status → List ℕ → Type 0
 IsNote c Clean text = ⊥
 IsNote c Alarmed text = ⊥
-IsNote c Usage text = (length c.words ≢ 1) × (text ≡ codes "usage: eva FILE" ++ line_end)
-IsNote c Unread text = (name : List ℕ) × IsUnread c name × (text ≡ codes "unread: " ++ name ++ line_end)
-IsNote c (Refused (Form at)) text = IsForm c × (text ≡ codes "refused: form at " ++ span_text at ++ line_end)
+IsNote c Usage text = (length c.words ≢ 1) × (text ≡ usage_note)
+IsNote c Unread text = (name : List ℕ) × IsUnread c name × (text ≡ named_text (codes "unread: ") name)
+IsNote c (Refused (Form at)) text = IsForm c × (text ≡ form_text at)
 IsNote c (Refused (Lex sort at)) text = IsLex c sort at × (text ≡ lex_text sort at)
 IsNote c (Refused (Limit limit found)) text = IsBeyond c limit found × (text ≡ limit_text limit found)
 IsNote c Unwritten text = ⊥
 IsNote c Memory text = text ≡ memory_note
-IsNote c TooLong text = (name : List ℕ) × IsTooLong c name × (text ≡ codes "too long: " ++ name ++ line_end)
+IsNote c TooLong text = (name : List ℕ) × IsTooLong c name × (text ≡ named_text (codes "too long: ") name)
 
 abbrev pub IsUntouched : Sunk → Type 0
-IsUntouched s = s.after ≡ s.before
+IsUntouched s = s.after.written ≡ s.before.written
 
 abbrev pub IsWritten : Sunk → List ℕ → Type 0
-IsWritten s text = Appended s.before text s.after
+IsWritten s text = Appended s.before.written text s.after.written
 
 -- a proper front of the text was written
 abbrev pub IsBroken : Sunk → List ℕ → Type 0
-IsBroken s text = AppendedInPart s.before text s.after
+IsBroken s text = AppendedInPart s.before.written text s.after.written
+
+-- a put of the sink failed in this call
+abbrev pub HasFailed : Sunk → Type 0
+HasFailed s = Rose s.before.faults s.after.faults
+
+-- memory was wanting in a put of the sink
+abbrev pub HasStarved : Sunk → Type 0
+HasStarved s = Rose s.before.starved s.after.starved
 
 -- the report stands whole on `out`, and nothing on `notes`
 abbrev pub Reports : Call → Bool → Type 0
@@ -177,9 +185,8 @@ Answers c Usage = Notes c Usage
 Answers c Unread = Notes c Unread
 Answers c (Refused refusal) = Notes c (Refused refusal)
 Answers c TooLong = Notes c TooLong
-Answers c Unwritten =
-    (BreaksReport c × Rose c.out.faults_before c.out.faults_after) ⊎ (BreaksNote c × Rose c.notes.faults_before c.notes.faults_after)
-Answers c Memory = Notes c Memory ⊎ (BreaksReport c ⊎ BreaksNote c)
+Answers c Unwritten = (BreaksReport c × HasFailed c.out) ⊎ (BreaksNote c × HasFailed c.notes)
+Answers c Memory = Notes c Memory ⊎ ((BreaksReport c × HasStarved c.out) ⊎ (BreaksNote c × HasStarved c.notes))
 
 -- the answer is a report, or memory was wanting
 abbrev pub IsReportOrMemory : Status → Type 0
@@ -202,27 +209,25 @@ pub record IsGood (c : Call) : Type 0 where
   pub small : length bytes ≤ most_bytes
   pub source : IsSource bytes program
   pub loaded : Rose (c.loads_before name) (c.loads_after name) → ⊥
-  pub put : Rose c.out.faults_before c.out.faults_after → ⊥
-  pub noted : Rose c.notes.faults_before c.notes.faults_after → ⊥
+  pub put : HasFailed c.out → ⊥
+  pub noted : HasFailed c.notes → ⊥
 
 abbrev pub status_of : Bool → Status
 status_of true = Alarmed
 status_of false = Clean
 
 -- what an attempt to put a text leaves: the text, and the answer that was meant; or a part of it, and another answer
-pub data Puts (status : Status) (text : List ℕ) (before after : Option (List ℕ)) (faults_before faults_after : ℕ) : Status → Type 0 where
-  whole : Appended before text after → Puts status text before after faults_before faults_after status
-  failed : AppendedInPart before text after → Rose faults_before faults_after → Puts status text before after faults_before faults_after Unwritten
-  starved : AppendedInPart before text after → Puts status text before after faults_before faults_after Memory
+pub data Puts (status : Status) (text : List ℕ) (s : Sunk) : Status → Type 0 where
+  whole : IsWritten s text → Puts status text s status
+  failed : IsBroken s text → HasFailed s → Puts status text s Unwritten
+  starved : IsBroken s text → HasStarved s → Puts status text s Memory
 
 -- the same of a note, in place of which memory may be wanting
-abbrev pub PutsNote : Status → List ℕ → Option (List ℕ) → Option (List ℕ) → ℕ → ℕ → Status → Type 0
-PutsNote status text before after faults_before faults_after result =
-    Puts status text before after faults_before faults_after result ⊎ Puts Memory memory_note before after faults_before faults_after result
+abbrev pub PutsNote : Status → List ℕ → Sunk → Status → Type 0
+PutsNote status text s result = Puts status text s result ⊎ Puts Memory memory_note s result
 
-abbrev pub sunk : Option (List ℕ) → Option (List ℕ) → ℕ → ℕ → Sunk
-sunk before after faults_before faults_after =
-    record { before = before; after = after; faults_before = faults_before; faults_after = faults_after }
+abbrev pub sunk : SinkState → SinkState → Sunk
+sunk before after = record { before = before; after = after }
 
 abbrev pub call_of : List (List ℕ) → (List ℕ → Option (Option (List ℕ))) → (List ℕ → ℕ) → (List ℕ → ℕ) → Sunk → Sunk → Call
 call_of words told loads_before loads_after out notes =

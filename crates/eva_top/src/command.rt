@@ -1,12 +1,11 @@
-ghost use Rattle.std.specs.Prelude.{◌≡◌, ◌≤◌, ◌++◌, ◌∷◌, [], ◌⊎◌, ℕ, List, length, map, string_bytes, IfOk, OnOk};
-ghost use Rattle.eva_io.specs.Outside.{Rose, Appended, AppendedInPart, HeldWhereTold, OnPutFailed};
+ghost use Rattle.std.specs.Prelude.{◌≡◌, ◌≤◌, ◌++◌, ◌∷◌, [], ℕ, List, length, map, string_bytes, ◌≢◌, IfOk, OnOk};
+ghost use Rattle.first_program.specs.Meaning.{meaning_of};
 ghost use Rattle.first_program.specs.SourceViews.{program_of, IsShaped};
 ghost use Rattle.c_lex.specs.Lexing.{AreAnswered, IsRefusal};
-ghost use Rattle.eva_top.specs.Report.{line_end};
-ghost use Rattle.eva_top.specs.Answers.{Puts, PutsNote, memory_note, lex_text, limit_text, sort_name, status_of, IsRead, Answers, sunk, call_of, IsGood, IsReportOrMemory, IsReportOf};
+ghost use Rattle.eva_report.specs.Report.{line_end};
+ghost use Rattle.eva_claim.specs.Claims.{IsReportOf};
+ghost use Rattle.eva_top.specs.Answers.{Puts, PutsNote, memory_note, usage_note, lex_text, form_text, at_text, limit_text, named_text, sort_name, status_of, IsRead, Answers, sunk, call_of, IsGood, IsReportOrMemory};
 
-use crate::print::{push_number, push_text};
-use crate::report::{Printed, print_report};
 use crate::status::{Refusal, Status};
 use c_base::name::Name;
 use c_base::number::Span;
@@ -14,7 +13,9 @@ use c_base::token::{LexSort, Token};
 use c_lex::LexFault;
 use eva_io::sink::{PutFault, Sink, write_whole};
 use eva_io::store::{LoadFault, Store};
+use eva_report::{push_number, push_text};
 use first_program::tree::Program;
+use first_report::{Printed, print_report};
 use std::alloc::{AllocError, Global};
 use std::thread::Threads;
 
@@ -23,7 +24,7 @@ pub const MOST_BYTES: u64 = 16_777_216;
 
 // Writes a text, after which the answer is `status`, or that of the fault.
 fn put_text<K: Sink>(sink: &mut K, text: &[u8], status: Status) -> Status
-    ensures { Puts status text.now (K.written sink.old) (K.written sink.new) (K.fault_count sink.old) (K.fault_count sink.new) result }
+    ensures { Puts status text.now (sunk (K.state sink.old) (K.state sink.new)) result }
 {
     match write_whole(sink, text) {
         Ok(()) => status,
@@ -42,38 +43,41 @@ fn report_status(alarmed: bool) -> Status
     }
 }
 
-// Notes that memory was wanting.
-fn note_memory<N: Sink>(notes: &mut N) -> Status
-    ensures { PutsNote Status.Memory memory_note (N.written notes.old) (N.written notes.new) (N.fault_count notes.old) (N.fault_count notes.new) result }
+/// Notes that memory was wanting.
+pub fn note_memory<N: Sink>(notes: &mut N) -> Status
+    ensures { Puts Status.Memory memory_note (sunk (N.state notes.old) (N.state notes.new)) result }
 {
     put_text(notes, b"out of memory\n", Status::Memory)
 }
 
-fn named_text(alloc: Global, head: &[u8], name: &Name) -> Result<Vec<u8>, AllocError>
-    ensures { IfOk result (λ text. text.items ≡ head.now ++ name.now ++ line_end) }
+/// Notes how the command is used.
+pub fn note_usage<N: Sink>(notes: &mut N) -> Status
+    ensures { Puts Status.Usage usage_note (sunk (N.state notes.old) (N.state notes.new)) result }
+{
+    put_text(notes, b"usage: eva FILE\n", Status::Usage)
+}
+
+// Writes a note of one line, where there was memory for it.
+fn note<N: Sink>(notes: &mut N, status: Status, text: Result<Vec<u8>, AllocError>) -> Status
+    ensures { (wanted : List ℕ) → IfOk text (λ t. t.items ≡ wanted)
+        → PutsNote status wanted (sunk (N.state notes.old) (N.state notes.new)) result }
+{
+    match text {
+        Err(AllocError) => note_memory(notes),
+        Ok(text) => put_text(notes, text.as_slice(), status),
+    }
+}
+
+// A line that ends in a name.
+#[tactic(auto, unfolding(crate::specs::Answers::named_text))]
+fn make_named_text(alloc: Global, head: &[u8], name: &Name) -> Result<Vec<u8>, AllocError>
+    ensures { IfOk result (λ text. text.items ≡ named_text head.now name.now) }
 {
     let mut text = Vec::new(alloc);
     push_text(&mut text, head)?;
     push_text(&mut text, name.as_bytes())?;
     push_text(&mut text, b"\n")?;
     Ok(text)
-}
-
-// A note that names the file.
-fn note_name<N: Sink>(
-    alloc: Global,
-    notes: &mut N,
-    status: Status,
-    head: &[u8],
-    name: &Name,
-) -> Status
-    ensures { PutsNote status (head.now ++ name.now ++ line_end)
-        (N.written notes.old) (N.written notes.new) (N.fault_count notes.old) (N.fault_count notes.new) result }
-{
-    match named_text(alloc, head, name) {
-        Err(AllocError) => note_memory(notes),
-        Ok(text) => put_text(notes, text.as_slice(), status),
-    }
 }
 
 fn sort_text(sort: LexSort) -> &'static [u8]
@@ -87,6 +91,18 @@ fn sort_text(sort: LexSort) -> &'static [u8]
     }
 }
 
+// A place, and the end of its line.
+#[tactic(auto, unfolding(crate::specs::Answers::at_text))]
+fn push_place(alloc: Global, text: &mut Vec<u8>, at: Span) -> Result<(), AllocError>
+    ensures { OnOk result (text.new.items ≡ text.old.items ++ at_text at) }
+{
+    push_text(text, b" at ")?;
+    push_number(alloc, text, at.line as u64)?;
+    push_text(text, b":")?;
+    push_number(alloc, text, at.col as u64)?;
+    push_text(text, b"\n")
+}
+
 #[tactic(auto, unfolding(crate::specs::Answers::lex_text))]
 fn make_lex_text(alloc: Global, sort: LexSort, at: Span) -> Result<Vec<u8>, AllocError>
     ensures { IfOk result (λ text. text.items ≡ lex_text sort at) }
@@ -94,11 +110,17 @@ fn make_lex_text(alloc: Global, sort: LexSort, at: Span) -> Result<Vec<u8>, Allo
     let mut text = Vec::new(alloc);
     push_text(&mut text, b"refused: lex ")?;
     push_text(&mut text, sort_text(sort))?;
-    push_text(&mut text, b" at ")?;
-    push_number(alloc, &mut text, at.line as u64)?;
-    push_text(&mut text, b":")?;
-    push_number(alloc, &mut text, at.col as u64)?;
-    push_text(&mut text, b"\n")?;
+    push_place(alloc, &mut text, at)?;
+    Ok(text)
+}
+
+#[tactic(auto, unfolding(crate::specs::Answers::form_text))]
+fn make_form_text(alloc: Global, at: Span) -> Result<Vec<u8>, AllocError>
+    ensures { IfOk result (λ text. text.items ≡ form_text at) }
+{
+    let mut text = Vec::new(alloc);
+    push_text(&mut text, b"refused: form")?;
+    push_place(alloc, &mut text, at)?;
     Ok(text)
 }
 
@@ -116,40 +138,19 @@ fn make_limit_text(alloc: Global, limit: u32, found: u64) -> Result<Vec<u8>, All
 }
 
 // A note that a file can't be cut into tokens.
-fn note_lex<N: Sink>(alloc: Global, notes: &mut N, sort: LexSort, at: Span) -> Status
-    ensures { PutsNote (Status.Refused (Refusal.Lex sort at)) (lex_text sort at)
-        (N.written notes.old) (N.written notes.new) (N.fault_count notes.old) (N.fault_count notes.new) result }
+fn note_lex<N: Sink>(alloc: Global, notes: &mut N, fault: LexSort, at: Span) -> Status
+    ensures { PutsNote (Status.Refused (Refusal.Lex fault at)) (lex_text fault at)
+        (sunk (N.state notes.old) (N.state notes.new)) result }
 {
-    match make_lex_text(alloc, sort, at) {
-        Err(AllocError) => note_memory(notes),
-        Ok(text) => put_text(
-            notes,
-            text.as_slice(),
-            Status::Refused(Refusal::Lex { fault: sort, at }),
-        ),
-    }
-}
-
-// A note that a limit is passed.
-fn note_limit<N: Sink>(alloc: Global, notes: &mut N, limit: u32, found: u64) -> Status
-    ensures { PutsNote (Status.Refused (Refusal.Limit limit found)) (limit_text limit found)
-        (N.written notes.old) (N.written notes.new) (N.fault_count notes.old) (N.fault_count notes.new) result }
-{
-    match make_limit_text(alloc, limit, found) {
-        Err(AllocError) => note_memory(notes),
-        Ok(text) => put_text(
-            notes,
-            text.as_slice(),
-            Status::Refused(Refusal::Limit { limit, found }),
-        ),
-    }
+    let text = make_lex_text(alloc, fault, at);
+    note(notes, Status::Refused(Refusal::Lex { fault, at }), text)
 }
 
 // The answer for a file that has no list of tokens that is short enough.
 fn refuse_bytes<N: Sink>(alloc: Global, fault: LexFault, notes: &mut N) -> Status
     ensures { (c : _) (bytes : List ℕ) → IsRead c bytes → IsRefusal bytes fault
-        → c.out.after ≡ c.out.before
-        → c.notes ≡ sunk (N.written notes.old) (N.written notes.new) (N.fault_count notes.old) (N.fault_count notes.new)
+        → c.out.after.written ≡ c.out.before.written
+        → c.notes ≡ sunk (N.state notes.old) (N.state notes.new)
         → Answers c result }
 {
     match fault {
@@ -157,7 +158,14 @@ fn refuse_bytes<N: Sink>(alloc: Global, fault: LexFault, notes: &mut N) -> Statu
         LexFault::OpenComment { at } => note_lex(alloc, notes, LexSort::OpenComment, at),
         LexFault::OpenString { at } => note_lex(alloc, notes, LexSort::OpenString, at),
         LexFault::BadNumber { at } => note_lex(alloc, notes, LexSort::BadNumber, at),
-        LexFault::TooMany { count } => note_limit(alloc, notes, 1, count),
+        LexFault::TooMany { count } => {
+            let text = make_limit_text(alloc, 1, count);
+            let refusal = Refusal::Limit {
+                limit: 1,
+                found: count,
+            };
+            note(notes, Status::Refused(refusal), text)
+        }
         LexFault::Memory => note_memory(notes),
     }
 }
@@ -165,7 +173,7 @@ fn refuse_bytes<N: Sink>(alloc: Global, fault: LexFault, notes: &mut N) -> Statu
 // The report of a program.
 fn make_report(alloc: Global, program: &Program) -> Result<Printed, AllocError>
     requires { IsShaped (program_of program.now) }
-    ensures { IfOk result (λ p. IsReportOf (program_of program.now) p.alarmed p.text.items) }
+    ensures { IfOk result (λ p. IsReportOf (meaning_of (program_of program.now)) p.alarmed p.text.items) }
 {
     let places = first_analysis::analyse(alloc, program)?;
     let printed = print_report(alloc, program, places.as_slice())?;
@@ -181,19 +189,16 @@ fn analyse_tokens<K: Sink, N: Sink>(
 ) -> Status
     requires { length tokens.now ≤ 2000000 }
     ensures { (c : _) (bytes : List ℕ) → IsRead c bytes → AreAnswered bytes tokens.now
-        → c.out ≡ sunk (K.written out.old) (K.written out.new) (K.fault_count out.old) (K.fault_count out.new)
-        → c.notes ≡ sunk (N.written notes.old) (N.written notes.new) (N.fault_count notes.old) (N.fault_count notes.new)
+        → c.out ≡ sunk (K.state out.old) (K.state out.new)
+        → c.notes ≡ sunk (N.state notes.old) (N.state notes.new)
         → Answers c result }
 {
     match first_language::parse(alloc, tokens) {
         Err(AllocError) => note_memory(notes),
         Ok(None) => {
             let at = Span { line: 1, col: 1 };
-            put_text(
-                notes,
-                b"refused: form at 1:1\n",
-                Status::Refused(Refusal::Form { at }),
-            )
+            let text = make_form_text(alloc, at);
+            note(notes, Status::Refused(Refusal::Form { at }), text)
         }
         Ok(Some(program)) => match make_report(alloc, &program) {
             Err(AllocError) => note_memory(notes),
@@ -211,8 +216,8 @@ fn analyse_bytes<K: Sink, N: Sink>(
 ) -> Status
     requires { length bytes.now ≤ 16777216 }
     ensures { (c : _) → IsRead c bytes.now
-        → c.out ≡ sunk (K.written out.old) (K.written out.new) (K.fault_count out.old) (K.fault_count out.new)
-        → c.notes ≡ sunk (N.written notes.old) (N.written notes.new) (N.fault_count notes.old) (N.fault_count notes.new)
+        → c.out ≡ sunk (K.state out.old) (K.state out.new)
+        → c.notes ≡ sunk (N.state notes.old) (N.state notes.new)
         → Answers c result }
 {
     match c_lex::lex(alloc, bytes) {
@@ -233,14 +238,21 @@ fn analyse_file<S: Store, K: Sink, N: Sink>(
         → c.told ≡ S.told store.old
         → c.loads_before ≡ S.faults_at store.old
         → c.loads_after ≡ S.faults_at store.new
-        → c.out ≡ sunk (K.written out.old) (K.written out.new) (K.fault_count out.old) (K.fault_count out.new)
-        → c.notes ≡ sunk (N.written notes.old) (N.written notes.new) (N.fault_count notes.old) (N.fault_count notes.new)
+        → c.out ≡ sunk (K.state out.old) (K.state out.new)
+        → c.notes ≡ sunk (N.state notes.old) (N.state notes.new)
         → Answers c result }
     ensures held { (other : List ℕ) → S.told store.new other ≡ S.told store.old other }
+    ensures others { (other : List ℕ) → other ≢ name.now → S.faults_at store.new other ≡ S.faults_at store.old other }
 {
     match store.load(alloc, name, MOST_BYTES) {
-        Err(LoadFault::Failed) => note_name(alloc, notes, Status::Unread, b"unread: ", name),
-        Err(LoadFault::TooLong) => note_name(alloc, notes, Status::TooLong, b"too long: ", name),
+        Err(LoadFault::Failed) => {
+            let text = make_named_text(alloc, b"unread: ", name);
+            note(notes, Status::Unread, text)
+        }
+        Err(LoadFault::TooLong) => {
+            let text = make_named_text(alloc, b"too long: ", name);
+            note(notes, Status::TooLong, text)
+        }
         Err(LoadFault::Memory) => note_memory(notes),
         Ok(bytes) => analyse_bytes(alloc, bytes.as_slice(), out, notes),
     }
@@ -259,20 +271,22 @@ pub fn eva<R: Threads + Sync, S: Store, K: Sink, N: Sink>(
 ) -> Status
     // Each answer has its cause, and what stands on the sinks after it; a report is sound.
     ensures answer { Answers (call_of (map string_bytes words.now.items) (S.told store.old) (S.faults_at store.old) (S.faults_at store.new)
-        (sunk (K.written out.old) (K.written out.new) (K.fault_count out.old) (K.fault_count out.new))
-        (sunk (N.written notes.old) (N.written notes.new) (N.fault_count notes.old) (N.fault_count notes.new))) result }
+        (sunk (K.state out.old) (K.state out.new)) (sunk (N.state notes.old) (N.state notes.new))) result }
 
     // A file in the language gets its report, where no fault comes and memory is there.
     ensures complete { IsGood (call_of (map string_bytes words.now.items) (S.told store.old) (S.faults_at store.old) (S.faults_at store.new)
-        (sunk (K.written out.old) (K.written out.new) (K.fault_count out.old) (K.fault_count out.new))
-        (sunk (N.written notes.old) (N.written notes.new) (N.fault_count notes.old) (N.fault_count notes.new))) → IsReportOrMemory result }
+        (sunk (K.state out.old) (K.state out.new)) (sunk (N.state notes.old) (N.state notes.new))) → IsReportOrMemory result }
 
     // The store holds what it held.
     ensures held { (name : List ℕ) → S.told store.new name ≡ S.told store.old name }
+
+    // No load of another name failed.
+    ensures others { (name : List ℕ) → map string_bytes words.now.items ≢ name ∷ []
+        → S.faults_at store.new name ≡ S.faults_at store.old name }
 {
     let _ = rt;
     if words.len() != 1 {
-        return put_text(notes, b"usage: eva FILE\n", Status::Usage);
+        return note_usage(notes);
     }
     match Name::from_bytes(alloc, words[0].as_bytes()) {
         Err(AllocError) => note_memory(notes),

@@ -2,6 +2,4 @@
 #![tactic(auto)]
 
 pub mod command;
-pub mod print;
-pub mod report;
 pub mod status;

@@ -5,6 +5,7 @@ use Rattle.std.proofs.Math.Seq.{take-append_seam, drop-append_seam}
 use Rattle.c_base.specs.declared.kind.Kind.{Kind}
 use Rattle.first_program.specs.Source.{Test}
 use Rattle.c_base.specs.declared.integer.IntKind.TheVariants.{Int}
+use Rattle.c_base.specs.declared.integer.Machine.TheVariants.{Lp64}
 use Rattle.c_base.specs.Integers.{fits_kind}
 use Rattle.c_prog.specs.Syntax.{Expr}
 use Rattle.first_program.specs.Source.{Stmt, Assign, Return, If, While, Block, Nothing, Stmts, Done, Next, count}
@@ -27,7 +28,7 @@ module _ (Row : Type 0) (Holds : Row → Env → Type 0) where
 
   assigned_weaken : (s : Spot Row Holds) (base : ℕ) (e : Expr) (a b : Row) → IsAssigned Row Holds s base e a → Below Row Holds a b → IsAssigned Row Holds s base e b
   assigned_weaken s base e a b f g = record {
-    each = λ env h. lift (value env e) (λ n. fits_kind Int n ≡ true → Holds a (set env base n)) (λ n. fits_kind Int n ≡ true → Holds b (set env base n))
+    each = λ env h. lift (value env e) (λ n. fits_kind Int Lp64 n ≡ true → Holds a (set env base n)) (λ n. fits_kind Int Lp64 n ≡ true → Holds b (set env base n))
         (λ n k fits. g.each (set env base n) (k fits)) (f.each env h);
   }
 

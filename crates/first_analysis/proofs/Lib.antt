@@ -1,3 +1,4 @@
+pub mod Parts
 pub mod Truths
 pub mod Sums
 pub mod Trees

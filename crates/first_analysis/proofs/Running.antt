@@ -12,10 +12,10 @@ use Rattle.c_prog.specs.Syntax.{Expr, Variable, Assign, Stmt, Expression, Return
 use Rattle.first_program.specs.Source as source
 use Rattle.first_program.specs.Source.{count, count_all}
 use Rattle.first_program.specs.SourceViews.{IsSumShaped, IsTestShaped, IsStmtShaped, AreStmtsShaped}
-use Rattle.first_program.specs.Meaning.{sum_expr, test_expr, stmt_of, stmts_of}
+use Rattle.first_program.specs.Meaning.{int_type, sum_expr, test_expr, stmt_of, stmts_of}
 use Rattle.c_memory.proofs.IntMemory.{int_cells}
 use Rattle.c_mean.specs.Evaluation.{Env, set, IsVariable, IsPlain, value, is_true}
-use Rattle.c_mean.specs.Machine.{Work, Do, Evaluate, Locate, Store, Discard, Choose, Turn, Deliver, Close, Held, Scalar, State, Outcome, Goes, Exit, Step, arrival, queued, sites_of, exit_of, statement_in}
+use Rattle.c_mean.specs.Machine.{Work, Do, Evaluate, Locate, Store, Discard, Choose, Loop, Turn, Deliver, Close, Held, Usable, State, Outcome, Goes, Exit, Step, arrival, queued, sites_of, exit_of, statement_in}
 use Rattle.c_mean.proofs.Runs.{Good, lead, lead_from}
 use Rattle.c_mean.proofs.Evaluation.{Shows, HasVariables, shows_set, evaluated, number_stored, delivered}
 use Rattle.first_analysis.specs.Flow.{Spot, Below, IsAlarmed, IsAssigned, IsBranch, Flow, FlowAll}
@@ -122,12 +122,12 @@ module _ (Row : Type 0) (Holds : Row → Env → Type 0) (l : Layout) (Covered :
   module _ (id : ℕ) (s : Spot Row Holds) (spots : List (Spot Row Holds)) (stands : Stands id (s ∷ spots)) where
     expression_held : (e : Expr) (rest : List Work) (held : List Held) (env : Env) (m : Memory) (n : ℕ) → statement_in rest ≡ id → sites_of rest ≡ [] →
         IsPlain variables e → IsAlarmed Row Holds s e → Shows variables env m → Holds s.row env →
-        ((v : ℤ) → value env e ≡ Ok v → Fine n (at rest (Scalar (plain v) ∷ held) m)) → Fine n (at (Evaluate e ∷ rest) held m)
+        ((v : ℤ) → value env e ≡ Ok v → Fine n (at rest (Usable (plain v) ∷ held) m)) → Fine n (at (Evaluate e ∷ rest) held m)
     expression_held e rest held env m n named none is alarmed show inside later =
         evaluated l Covered Alarmed variables has env e rest held m n is show (by_result (value env e) refl (alarmed.each env inside))
       where
         by_result : (x : Result ℤ Kind) → value env e ≡ x → MatchResult x (λ v. Unit {0}) (λ kind. IsTrue (s.alarms kind)) →
-            MatchResult x (λ v. Fine n (at rest (Scalar (plain v) ∷ held) m)) (λ kind. Alarmed kind (statement_in rest) (sites_of rest))
+            MatchResult x (λ v. Fine n (at rest (Usable (plain v) ∷ held) m)) (λ kind. Alarmed kind (statement_in rest) (sites_of rest))
         by_result (Ok v) e h = later v e
         by_result (Err kind) e h = rw (named, none) (here_alarms id s spots stands kind h)
 
@@ -135,39 +135,39 @@ module _ (Row : Type 0) (Holds : Row → Env → Type 0) (l : Layout) (Covered :
     branch_held : (e : Expr) (rest when_true when_false : List Work) (turn other : Row) (env : Env) (m : Memory) (n : ℕ) → statement_in rest ≡ id → sites_of rest ≡ [] →
         IsPlain variables e → IsAlarmed Row Holds s e → IsBranch Row Holds s e true turn → IsBranch Row Holds s e false other → Shows variables env m → Holds s.row env →
         arrival rest ≡ None →
-        ((v : ℤ) (out : Outcome) → Step l (at rest (Scalar (plain v) ∷ []) m) out → out ≡ Goes (at (cond (is_true v) when_true when_false) [] m)) →
+        ((v : ℤ) (out : Outcome) → Step l (at rest (Usable (plain v) ∷ []) m) out → out ≡ Goes (at (cond (is_true v) when_true when_false) [] m)) →
         (Holds turn env → Fine n (at when_true [] m)) → (Holds other env → Fine n (at when_false [] m)) → Fine n (at (Evaluate e ∷ rest) [] m)
     branch_held e rest when_true when_false turn other env m n named none is alarmed turned otherwise show inside silent step left right =
         expression_held e rest [] env m n named none is alarmed show inside
         (λ v is_v. by_truth v (is_true v) refl (rw is_v at (turned.each env inside)) (rw is_v at (otherwise.each env inside)))
       where
-        by_truth : (v : ℤ) (b : Bool) → is_true v ≡ b → (is_true v ≡ true → Holds turn env) → (is_true v ≡ false → Holds other env) → Fine n (at rest (Scalar (plain v) ∷ []) m)
+        by_truth : (v : ℤ) (b : Bool) → is_true v ≡ b → (is_true v ≡ true → Holds turn env) → (is_true v ≡ false → Holds other env) → Fine n (at rest (Usable (plain v) ∷ []) m)
         by_truth v true e y z =
-            lead l Covered Alarmed (at rest (Scalar (plain v) ∷ []) m) (at when_true [] m) silent (λ out t. let u = step v out t in rw e at u) n (left (y e))
+            lead l Covered Alarmed (at rest (Usable (plain v) ∷ []) m) (at when_true [] m) silent (λ out t. let u = step v out t in rw e at u) n (left (y e))
         by_truth v false e y z =
-            lead l Covered Alarmed (at rest (Scalar (plain v) ∷ []) m) (at when_false [] m) silent (λ out t. let u = step v out t in rw e at u) n (right (z e))
+            lead l Covered Alarmed (at rest (Usable (plain v) ∷ []) m) (at when_false [] m) silent (λ out t. let u = step v out t in rw e at u) n (right (z e))
 
     assignment_good : (target : ℕ) (sum : Sum) (rest : List Work) (before after : Row) (env : Env) (m : Memory) (n : ℕ) → IsVariable variables target → IsSumShaped variables sum →
         Below Row Holds before s.row → IsAlarmed Row Holds s (sum_expr sum) → IsAssigned Row Holds s target (sum_expr sum) after → IsEnding rest → GoesOn n rest after →
-        Shows variables env m → Holds before env → Fine n (at (Do (Expression id (Assign Int (Variable target) (sum_expr sum))) ∷ rest) [] m)
+        Shows variables env m → Holds before env → Fine n (at (Do (Expression id (Assign int_type (Variable target) (sum_expr sum))) ∷ rest) [] m)
     assignment_good target sum rest before after env m n is shaped below alarmed assigned ending goes show inside =
         arrive (source.Assign (record { 0 = target }) sum) id rest (Evaluate assign ∷ Discard id ∷ rest) m refl (here_covers id s spots stands env m show held) ending.sites (λ out step. step) n
         (λ k less_n.
-        lead l Covered Alarmed (at (Evaluate assign ∷ Discard id ∷ rest) [] m) (at (Locate (Variable target) ∷ Evaluate (sum_expr sum) ∷ Store Int ∷ Discard id ∷ rest) [] m) refl (λ out step. step) k
-        (lead l Covered Alarmed (at (Locate (Variable target) ∷ Evaluate (sum_expr sum) ∷ Store Int ∷ Discard id ∷ rest) [] m)
-        (at (Evaluate (sum_expr sum) ∷ Store Int ∷ Discard id ∷ rest) (Scalar (address_of l target) ∷ []) m) refl (λ out step. step) k
-        (expression_held (sum_expr sum) (Store Int ∷ Discard id ∷ rest) (Scalar (address_of l target) ∷ []) env m k refl ending.sites (sum_plain variables sum shaped) alarmed show held
+        lead l Covered Alarmed (at (Evaluate assign ∷ Discard id ∷ rest) [] m) (at (Locate (Variable target) ∷ Evaluate (sum_expr sum) ∷ Store int_type ∷ Discard id ∷ rest) [] m) refl (λ out step. step) k
+        (lead l Covered Alarmed (at (Locate (Variable target) ∷ Evaluate (sum_expr sum) ∷ Store int_type ∷ Discard id ∷ rest) [] m)
+        (at (Evaluate (sum_expr sum) ∷ Store int_type ∷ Discard id ∷ rest) (Usable (address_of l target) ∷ []) m) refl (λ out step. step) k
+        (expression_held (sum_expr sum) (Store int_type ∷ Discard id ∷ rest) (Usable (address_of l target) ∷ []) env m k refl ending.sites (sum_plain variables sum shaped) alarmed show held
         (λ v is_v.
         let fits = sum_fits variables env show.fits sum shaped v is_v in
         number_stored l Covered Alarmed variables has env target v (Discard id ∷ rest) [] m k is show
-        (lead l Covered Alarmed (at (Discard id ∷ rest) (Scalar (plain v) ∷ []) (stored v)) (at rest [] (stored v)) refl (λ out step. step) k
+        (lead l Covered Alarmed (at (Discard id ∷ rest) (Usable (plain v) ∷ []) (stored v)) (at rest [] (stored v)) refl (λ out step. step) k
         (goes.each k less_n (set env target v) (stored v) (shows_set variables env m target v is fits show) ((rw is_v at (assigned.each env held)) fits)))))))
       where
         held : Holds s.row env
         held = below.each env inside
 
         assign : Expr
-        assign = Assign Int (Variable target) (sum_expr sum)
+        assign = Assign int_type (Variable target) (sum_expr sum)
 
         stored : ℤ → Memory
         stored v = with_base m target (Some (int_cells (Some v)))
@@ -177,7 +177,7 @@ module _ (Row : Type 0) (Holds : Row → Env → Type 0) (l : Layout) (Covered :
     return_good sum rest before env m n shaped below alarmed ending show inside =
         arrive (source.Return sum) id rest (Evaluate (sum_expr sum) ∷ Deliver id ∷ rest) m refl (here_covers id s spots stands env m show held) ending.sites (λ out step. step) n
         (λ k less_n. expression_held (sum_expr sum) (Deliver id ∷ rest) [] env m k refl ending.sites (sum_plain variables sum shaped) alarmed show held
-        (λ v is_v. delivered l Covered Alarmed variables has id rest [] m (Scalar (plain v)) ending.exit k ending.out ending.last))
+        (λ v is_v. delivered l Covered Alarmed variables has id rest [] m (plain v) ending.exit k ending.out ending.last))
       where
         held : Holds s.row env
         held = below.each env inside
@@ -203,18 +203,18 @@ module _ (Row : Type 0) (Holds : Row → Env → Type 0) (l : Layout) (Covered :
         (alarmed : IsAlarmed Row Holds s (test_expr test)) (left : IsBranch Row Holds s (test_expr test) true turn) (right : IsBranch Row Holds s (test_expr test) false after) (ending : IsEnding rest)
         (around : (k : ℕ) (tail : List Work) → IsEnding tail → GoesOn k tail back → (env : Env) (m : Memory) → Shows variables env m → Holds turn env →
         Fine k (at (Do (stmt_of (suc id) body) ∷ tail) [] m)) where
-      abbrev loop : Stmt
-      loop = stmt_of id (source.While test body)
+      abbrev head : Work
+      head = Loop id (test_expr test) (stmt_of (suc id) body)
 
-      loop_good : (n k : ℕ) → k ≤ n → GoesOn n rest after → (env : Env) (m : Memory) → Shows variables env m → Holds s.row env → Fine k (at (Do loop ∷ rest) [] m)
+      loop_good : (n k : ℕ) → k ≤ n → GoesOn n rest after → (env : Env) (m : Memory) → Shows variables env m → Holds s.row env → Fine k (at (head ∷ rest) [] m)
       loop_good n zero h goes env m show inside = tt
       loop_good zero (suc k) h goes env m show inside = absurd (omega arith)
       loop_good (suc n) (suc k) h goes env m show inside =
-          lead_from l Covered Alarmed (at (Do loop ∷ rest) [] m) (at (Evaluate (test_expr test) ∷ Turn id (test_expr test) (stmt_of (suc id) body) ∷ rest) [] m) id refl
+          lead_from l Covered Alarmed (at (head ∷ rest) [] m) (at (Evaluate (test_expr test) ∷ Turn id (test_expr test) (stmt_of (suc id) body) ∷ rest) [] m) id refl
           (rw ending.sites (here_covers id s spots stands env m show inside)) (λ out step. step) k
-          (branch_held (test_expr test) (Turn id (test_expr test) (stmt_of (suc id) body) ∷ rest) (Do (stmt_of (suc id) body) ∷ Do loop ∷ rest) rest turn after env m k refl ending.sites
+          (branch_held (test_expr test) (Turn id (test_expr test) (stmt_of (suc id) body) ∷ rest) (Do (stmt_of (suc id) body) ∷ head ∷ rest) rest turn after env m k refl ending.sites
           (test_plain variables test shaped) alarmed left right show inside refl (λ v out step. step)
-          (λ holds. around k (Do loop ∷ rest) (record { sites = ending.sites; exit = ending.exit; out = ending.out; last = ending.last })
+          (λ holds. around k (head ∷ rest) (record { sites = ending.sites; exit = ending.exit; out = ending.out; last = ending.last })
           (record { each = λ j i e c sh b. loop_good n j (omega arith) (less (suc n) n rest after (omega arith) goes) e c sh (returns.each e b) }) env m show holds)
           (λ holds. goes.each k (omega arith) env m show holds))
 
@@ -241,9 +241,10 @@ module _ (Row : Type 0) (Holds : Row → Env → Type 0) (l : Layout) (Covered :
         show inside
     statement_good (source.While test body) id [] before after rest shaped f stands ending n goes env m show inside = absurd f
     statement_good (source.While test body) id (s ∷ spots) before after rest shaped f stands ending n goes env m show inside =
-        loop_good id s spots stands test body rest f.2.0 f.2.1 after shaped.0 f.2.5 f.1 f.2.2 f.2.3 ending
+        lead l Covered Alarmed (at (Do (stmt_of id (source.While test body)) ∷ rest) [] m) (at (Loop id (test_expr test) (stmt_of (suc id) body) ∷ rest) [] m) refl (λ out step. step) n
+        (loop_good id s spots stands test body rest f.2.0 f.2.1 after shaped.0 f.2.5 f.1 f.2.2 f.2.3 ending
         (λ k tail ends on e c sh h. statement_good body (suc id) spots f.2.0 f.2.1 tail shaped.1 f.2.4 (stands_rest id s spots stands) ends k on e c sh h)
-        n n (omega arith) goes env m show (f.0.each env inside)
+        n n (omega arith) goes env m show (f.0.each env inside))
     statement_good (source.Block stmts) id spots before after rest shaped f stands ending n goes env m show inside =
         lead l Covered Alarmed (at (Do (Block [] (stmts_of id stmts)) ∷ rest) [] m) (at (queued (stmts_of id stmts) (Close [] (stmts_of id stmts) ∷ rest)) [] m) refl (λ out step. step) n
         (statements_good stmts id spots before after (Close [] (stmts_of id stmts) ∷ rest) shaped f stands

@@ -3,6 +3,7 @@ use Rattle.std.proofs.Common.{◌≡◌, ℕ, Bool, true, false, Option, None, S
 use Rattle.std.specs.Prelude.{◌+ℤ◌, ◌-ℤ◌}
 use Rattle.c_base.specs.declared.kind.Kind.{Kind}
 use Rattle.c_base.specs.declared.integer.IntKind.TheVariants.{Int}
+use Rattle.c_base.specs.declared.integer.Machine.TheVariants.{Lp64}
 use Rattle.first_program.specs.declared.tree.Sign.{Sign}
 use Rattle.first_program.specs.declared.tree.Sign.TheVariants.{Plus, Minus}
 use Rattle.first_program.specs.Source.{Sum, Number as SumNumber, Variable as SumVariable, Parenthesised, Run, Addends, End, Then, Test, Compare, Enclosed}
@@ -34,16 +35,16 @@ module _ (count : ℕ) where
   test_plain (Enclosed t) h = test_plain t h
 
   abbrev Fits : Result ℤ Kind → Type 0
-  Fits (Ok n) = fits_kind Int n ≡ true
+  Fits (Ok n) = fits_kind Int Lp64 n ≡ true
   Fits (Err kind) = Unit {0}
 
-  arithmetic_fits : (n : ℤ) (b : Bool) → fits_kind Int n ≡ b → Fits (arithmetic true 32 n)
+  arithmetic_fits : (n : ℤ) (b : Bool) → fits_kind Int Lp64 n ≡ b → Fits (arithmetic true 32 n)
   arithmetic_fits n true e = rw e e
   arithmetic_fits n false e = rw e tt
 
   plus_fits : (sign : Sign) (x y : Result ℤ Kind) → Fits (combined (sign_op sign) Int x y)
-  plus_fits Plus (Ok x) (Ok y) = arithmetic_fits (x +ℤ y) (fits_kind Int (x +ℤ y)) refl
-  plus_fits Minus (Ok x) (Ok y) = arithmetic_fits (x -ℤ y) (fits_kind Int (x -ℤ y)) refl
+  plus_fits Plus (Ok x) (Ok y) = arithmetic_fits (x +ℤ y) (fits_kind Int Lp64 (x +ℤ y)) refl
+  plus_fits Minus (Ok x) (Ok y) = arithmetic_fits (x -ℤ y) (fits_kind Int Lp64 (x -ℤ y)) refl
   plus_fits sign (Ok x) (Err k) = tt
   plus_fits sign (Err k) y = tt
 
@@ -63,5 +64,5 @@ module _ (count : ℕ) where
   value_fits env fits (Run s more) h = run_fits env (sum_expr s) more (value_fits env fits s h.0)
 
   -- the number of a sum is one of type int
-  pub sum_fits : (env : Env) → ((base : ℕ) → FitsInt (env base)) → (s : Sum) → IsSumShaped count s → (n : ℤ) → value env (sum_expr s) ≡ Ok n → fits_kind Int n ≡ true
+  pub sum_fits : (env : Env) → ((base : ℕ) → FitsInt (env base)) → (s : Sum) → IsSumShaped count s → (n : ℤ) → value env (sum_expr s) ≡ Ok n → fits_kind Int Lp64 n ≡ true
   sum_fits env fits s h n e = rw e at (value_fits env fits s h)

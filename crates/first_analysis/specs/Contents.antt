@@ -1,8 +1,9 @@
 -- What a variable may hold, by bounds and a flag, and the rows of all variables.
 use Rattle.std.specs.Prelude.{ℕ, suc, ◌≡◌, ℤ, ◌≤ℤ◌, IsTrue, true, List, slice_get, Option, None, Some}
 use Rattle.c_base.specs.declared.integer.IntKind.TheVariants.{Int}
+use Rattle.c_base.specs.declared.integer.Machine.TheVariants.{Lp64}
 use Rattle.c_base.specs.Integers.{fits_kind}
-use Rattle.first_analysis.specs.declared.content.Range.{Range}
+use Rattle.first_analysis.specs.declared.range.Range.{Range}
 use Rattle.first_analysis.specs.declared.content.Content.{Content}
 use Rattle.c_mean.specs.Evaluation.{Env}
 
@@ -32,7 +33,7 @@ Row = List Content
 
 abbrev pub FitsInt : Option ℤ → Type 0
 FitsInt None = Unit {0}
-FitsInt (Some n) = fits_kind Int n ≡ true
+FitsInt (Some n) = fits_kind Int Lp64 n ≡ true
 
 -- each variable holds what the row says, and a number of int at most; the variables are numbered from 1
 pub record HoldsRow (row : Row) (env : Env) : Type 0 where

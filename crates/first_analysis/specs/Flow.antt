@@ -2,6 +2,7 @@
 use Rattle.std.specs.Prelude.{ℕ, ◌≡◌, Bool, true, false, IsTrue, List, [], ◌∷◌, take, drop, MatchResult}
 use Rattle.c_base.specs.declared.kind.Kind.{Kind}
 use Rattle.c_base.specs.declared.integer.IntKind.TheVariants.{Int}
+use Rattle.c_base.specs.declared.integer.Machine.TheVariants.{Lp64}
 use Rattle.c_base.specs.Integers.{fits_kind}
 use Rattle.c_prog.specs.Syntax.{Expr}
 use Rattle.first_program.specs.Source.{Stmt, Assign, Return, If, While, Block, Nothing, Stmts, Done, Next, count}
@@ -24,7 +25,7 @@ module _ (Row : Type 0) (Holds : Row → Env → Type 0) where
 
   -- what holds behind an assignment
   pub record IsAssigned (s : Spot) (base : ℕ) (e : Expr) (after : Row) : Type 0 where
-    pub each : (env : Env) → Holds s.row env → MatchResult (value env e) (λ n. fits_kind Int n ≡ true → Holds after (set env base n)) (λ kind. Unit {0})
+    pub each : (env : Env) → Holds s.row env → MatchResult (value env e) (λ n. fits_kind Int Lp64 n ≡ true → Holds after (set env base n)) (λ kind. Unit {0})
 
   -- what holds where a condition has this truth
   pub record IsBranch (s : Spot) (e : Expr) (truth : Bool) (after : Row) : Type 0 where

@@ -1,3 +1,4 @@
+pub mod Parts
 pub mod Contents
 pub mod Values
 pub mod Flow

@@ -1,8 +1,9 @@
 //! What sums and tests give.
-ghost use Rattle.std.specs.Prelude.{◌≡◌, ℤ, ◌≤ℤ◌, ◌+ℤ◌, ◌-ℤ◌, IsTrue, Bool, true, not, int_lt, ◌≢◌, Option, Result, Ok, IfOk, pos, map};
+ghost use Rattle.std.specs.Prelude.{◌≡◌, ℤ, ◌≤ℤ◌, ◌+ℤ◌, ◌-ℤ◌, IsTrue, Bool, true, false, not, int_lt, ◌≢◌, Option, Result, Ok, IfOk, pos, negsuc, map};
 ghost use Rattle.c_base.specs.declared.kind.Kind.{Kind};
 ghost use Rattle.c_base.specs.declared.integer.IntKind.TheVariants.{Int};
-ghost use Rattle.c_base.specs.Operators.{arithmetic, computed};
+ghost use Rattle.c_base.specs.declared.integer.Machine.TheVariants.{Lp64};
+ghost use Rattle.c_base.specs.Operators.{arithmetic, applied};
 ghost use Rattle.first_program.specs.Meaning.{sign_op, run_expr, sum_expr, relation_op, test_expr};
 ghost use Rattle.first_program.specs.SourceViews.{addends, addend_tree, sum_tree, test_tree};
 ghost use Rattle.c_prog.specs.Syntax.{Expr};
@@ -10,7 +11,8 @@ ghost use Rattle.c_mean.specs.Evaluation.{Env, value, combined, content_value, i
 ghost use Rattle.first_analysis.specs.Contents.{IsWithin, Holds, HoldsNumber, HoldsRow};
 ghost use Rattle.first_analysis.specs.Values.{Gives, GivesTruth, has_kind, is_possible};
 
-use crate::content::{Content, INT, Range};
+use crate::content::Content;
+use crate::range::{INT, Range};
 use c_base::number::BaseId;
 use c_base::operators::Rel;
 use first_program::tree::{Addend, Sign, Sum, Test};
@@ -63,7 +65,7 @@ impl Kinds {
 }
 
 // What the use of a variable gives.
-fn used(content: Content) -> Evaluated
+fn use_of(content: Content) -> Evaluated
     ensures { (x : Option ℤ) → Holds content x → Gives result (content_value x) }
 {
     Evaluated {
@@ -108,7 +110,7 @@ struct Bounds {
     high: i128,
 }
 
-fn added(a: Range, b: Range) -> Bounds
+fn sum_bounds(a: Range, b: Range) -> Bounds
     ensures { (m n : ℤ) → IsWithin a m → IsWithin b n → (result.low ≤ℤ (m +ℤ n)) × ((m +ℤ n) ≤ℤ result.high) }
 {
     Bounds {
@@ -117,7 +119,7 @@ fn added(a: Range, b: Range) -> Bounds
     }
 }
 
-fn subtracted(a: Range, b: Range) -> Bounds
+fn difference_bounds(a: Range, b: Range) -> Bounds
     ensures { (m n : ℤ) → IsWithin a m → IsWithin b n → (result.low ≤ℤ (m -ℤ n)) × ((m -ℤ n) ≤ℤ result.high) }
 {
     Bounds {
@@ -127,8 +129,9 @@ fn subtracted(a: Range, b: Range) -> Bounds
 }
 
 // The bounds as far as they lie in type int, if they do.
-fn cut(bounds: Bounds) -> Option<Range>
-    ensures { (n : ℤ) → bounds.low ≤ℤ n → n ≤ℤ bounds.high → IsWithin INT n → HoldsNumber result n }
+fn int_part(bounds: Bounds) -> Option<Range>
+    ensures { (n : ℤ) → bounds.low ≤ℤ n → n ≤ℤ bounds.high → negsuc 2147483647 ≤ℤ n → n ≤ℤ pos 2147483647
+        → HoldsNumber result n }
 {
     let low = if bounds.low < INT.low as i128 {
         INT.low
@@ -146,6 +149,9 @@ fn cut(bounds: Bounds) -> Option<Range>
         }
         bounds.high as i64
     };
+    if high < low {
+        return None;
+    }
     Some(Range { low, high })
 }
 
@@ -156,7 +162,7 @@ fn within_int(bounds: Bounds, kinds: Kinds) -> Evaluated
 {
     let leaves = bounds.low < INT.low as i128 || bounds.high > INT.high as i128;
     Evaluated {
-        range: cut(bounds),
+        range: int_part(bounds),
         kinds: Kinds {
             overflow: kinds.overflow || leaves,
             initialization: kinds.initialization,
@@ -164,19 +170,20 @@ fn within_int(bounds: Bounds, kinds: Kinds) -> Evaluated
     }
 }
 
+// The left operand is used first: where it has no value, the right one is not used (C11 6.3.2.1p2).
 fn plus(left: Evaluated, sign: Sign, right: Evaluated) -> Evaluated
     ensures { (x y : Result ℤ Kind) → Gives left x → Gives right y → Gives result (combined (sign_op sign) Int x y) }
 {
+    let Some(a) = left.range else {
+        return left;
+    };
     let kinds = left.kinds.with(right.kinds);
-    match left.range {
-        None => Evaluated { range: None, kinds },
-        Some(a) => match right.range {
-            None => Evaluated { range: None, kinds },
-            Some(b) => match sign {
-                Sign::Plus => within_int(added(a, b), kinds),
-                Sign::Minus => within_int(subtracted(a, b), kinds),
-            },
-        },
+    let Some(b) = right.range else {
+        return Evaluated { range: None, kinds };
+    };
+    match sign {
+        Sign::Plus => within_int(sum_bounds(a, b), kinds),
+        Sign::Minus => within_int(difference_bounds(a, b), kinds),
     }
 }
 
@@ -199,7 +206,7 @@ pub fn sum(row: &[Content], tree: &Sum) -> Evaluated
 {
     match tree {
         Sum::Number(n) => single(*n),
-        Sum::Variable(base) => used(content_of(row, *base)),
+        Sum::Variable(base) => use_of(content_of(row, *base)),
         Sum::Parenthesised(inner) => sum(row, inner.get()),
         Sum::Run { first, more } => {
             let start = sum(row, first.get());
@@ -221,7 +228,7 @@ fn may_differ(a: Range, b: Range) -> bool
 }
 
 // Which truths an equation may have between numbers of two ranges.
-fn equated(a: Range, b: Range) -> Truths
+fn equality(a: Range, b: Range) -> Truths
     ensures equal { (n : ℤ) → IsWithin a n → IsWithin b n → IsTrue result.may_be_true }
     ensures apart { (m n : ℤ) → IsWithin a m → IsWithin b n → m ≢ n → IsTrue result.may_be_false }
 {
@@ -232,7 +239,16 @@ fn equated(a: Range, b: Range) -> Truths
 }
 
 impl Truths {
-    fn negated(self) -> Truths
+    fn none() -> Truths
+        ensures { (truth : Bool) → is_possible result truth ≡ false }
+    {
+        Truths {
+            may_be_true: false,
+            may_be_false: false,
+        }
+    }
+
+    fn negation(self) -> Truths
         ensures { (truth : Bool) → is_possible result truth ≡ is_possible self (not truth) }
     {
         Truths {
@@ -242,7 +258,7 @@ impl Truths {
     }
 }
 
-fn ordered(a: Range, b: Range) -> Truths
+fn order(a: Range, b: Range) -> Truths
     ensures { (m n : ℤ) → IsWithin a m → IsWithin b n → IsTrue (is_possible result (int_lt m n)) }
 {
     Truths {
@@ -252,42 +268,38 @@ fn ordered(a: Range, b: Range) -> Truths
 }
 
 // Which truths a relation may have between numbers of two ranges.
-fn compared(a: Range, relation: Rel, b: Range) -> Truths
-    ensures { (m n : ℤ) → IsWithin a m → IsWithin b n → IfOk (computed (relation_op relation) Int m n) (λ t. IsTrue (is_possible result (is_true t))) }
+fn comparison(a: Range, relation: Rel, b: Range) -> Truths
+    ensures { (m n : ℤ) → IsWithin a m → IsWithin b n → IfOk (applied (relation_op relation) Int Lp64 m n) (λ t. IsTrue (is_possible result (is_true t))) }
 {
     match relation {
-        Rel::Lt => ordered(a, b),
-        Rel::Le => ordered(b, a).negated(),
-        Rel::Gt => ordered(b, a),
-        Rel::Ge => ordered(a, b).negated(),
-        Rel::Eq => equated(a, b),
-        Rel::Ne => equated(a, b).negated(),
+        Rel::Lt => order(a, b),
+        Rel::Le => order(b, a).negation(),
+        Rel::Gt => order(b, a),
+        Rel::Ge => order(a, b).negation(),
+        Rel::Eq => equality(a, b),
+        Rel::Ne => equality(a, b).negation(),
     }
 }
 
-fn related(left: Evaluated, relation: Rel, right: Evaluated) -> Tested
+fn relation_result(left: Evaluated, relation: Rel, right: Evaluated) -> Tested
     ensures { (x y : Result ℤ Kind) → Gives left x → Gives right y → GivesTruth result (combined (relation_op relation) Int x y) }
 {
-    let kinds = left.kinds.with(right.kinds);
-    let none = Truths {
-        may_be_true: false,
-        may_be_false: false,
+    let Some(a) = left.range else {
+        return Tested {
+            truths: Truths::none(),
+            kinds: left.kinds,
+        };
     };
-    match left.range {
-        None => Tested {
-            truths: none,
+    let kinds = left.kinds.with(right.kinds);
+    let Some(b) = right.range else {
+        return Tested {
+            truths: Truths::none(),
             kinds,
-        },
-        Some(a) => match right.range {
-            None => Tested {
-                truths: none,
-                kinds,
-            },
-            Some(b) => Tested {
-                truths: compared(a, relation, b),
-                kinds,
-            },
-        },
+        };
+    };
+    Tested {
+        truths: comparison(a, relation, b),
+        kinds,
     }
 }
 
@@ -301,7 +313,7 @@ pub fn test(row: &[Content], tree: &Test) -> Tested
             left,
             relation,
             right,
-        } => related(sum(row, left), *relation, sum(row, right)),
+        } => relation_result(sum(row, left), *relation, sum(row, right)),
         Test::Parenthesised(inner) => test(row, inner.get()),
     }
 }

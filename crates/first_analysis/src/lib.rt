@@ -17,6 +17,7 @@ pub mod content;
 pub mod evaluation;
 pub mod marks;
 pub mod place;
+pub mod range;
 pub mod row;
 pub mod statement;
 

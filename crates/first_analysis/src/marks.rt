@@ -1,7 +1,7 @@
 //! The numbers to which unstable bounds go.
 ghost use Rattle.std.specs.Prelude.{◌≤ℤ◌, ◌≤◌, pos, length};
 
-use crate::content::INT;
+use crate::range::INT;
 use first_program::tree::{Addend, Arm, Stmt, Sum, Test};
 use std::alloc::{AllocError, Global};
 

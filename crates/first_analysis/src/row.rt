@@ -1,12 +1,14 @@
 //! Rows: what each variable may hold.
 ghost use Rattle.std.specs.Prelude.{◌≡◌, ℤ, true, List, IsTrue, IfOk, length};
 ghost use Rattle.c_base.specs.declared.integer.IntKind.TheVariants.{Int};
+ghost use Rattle.c_base.specs.declared.integer.Machine.TheVariants.{Lp64};
 ghost use Rattle.c_base.specs.Integers.{fits_kind};
 ghost use Rattle.c_mean.specs.Evaluation.{Env, set};
 ghost use Rattle.first_analysis.specs.Contents.{IsWithin, HoldsNumber, HoldsRow, HoldsReached};
 ghost use Rattle.first_analysis.specs.declared.content.Content.{Content};
 
-use crate::content::{Content, Range};
+use crate::content::Content;
+use crate::range::Range;
 use c_base::number::BaseId;
 use sqlite_items::Items;
 use std::alloc::{AllocError, Global};
@@ -75,7 +77,7 @@ pub fn everything(alloc: Global, count: usize) -> Result<Items<Content>, AllocEr
 
 // Writes a number of the range into a variable.
 fn put(row: &mut Items<Content>, target: BaseId, range: Range)
-    ensures { (env : Env) (n : ℤ) → HoldsRow row.old env → IsWithin range n → fits_kind Int n ≡ true → HoldsRow row.new (set env target.0 n) }
+    ensures { (env : Env) (n : ℤ) → HoldsRow row.old env → IsWithin range n → fits_kind Int Lp64 n ≡ true → HoldsRow row.new (set env target.0 n) }
 {
     if target.0 == 0 {
         return;
@@ -99,7 +101,7 @@ pub fn assign(
     target: BaseId,
     range: Option<Range>,
 ) -> Result<Reached, AllocError>
-    ensures { IfOk result (λ after. (env : Env) (n : ℤ) → HoldsRow row.now env → HoldsNumber range n → fits_kind Int n ≡ true
+    ensures { IfOk result (λ after. (env : Env) (n : ℤ) → HoldsRow row.now env → HoldsNumber range n → fits_kind Int Lp64 n ≡ true
         → HoldsReached after (set env target.0 n)) }
 {
     match range {

@@ -3,13 +3,20 @@ use Rattle.std.specs.Prelude.{ℕ, suc, ◌+◌, true, false, List, [], ◌∷�
 use Rattle.c_base.specs.declared.operators.BinOp.{BinOp}
 use Rattle.c_base.specs.declared.operators.BinOp.TheVariants.{Add, Sub, Lt, Le, Gt, Ge, Eq, Ne}
 use Rattle.c_base.specs.declared.integer.IntKind.TheVariants.{Int}
+use Rattle.c_base.specs.declared.integer.Machine.TheVariants.{Lp64}
+use Rattle.c_memory.specs.declared.scalar.Scalar.{Scalar}
+use Rattle.c_memory.specs.declared.scalar.Scalar.TheVariants.{Integer}
 use Rattle.c_prog.specs.declared.base.BaseSort.TheVariants.{Local, Func}
 use Rattle.first_program.specs.declared.tree.Sign.{Sign}
 use Rattle.first_program.specs.declared.tree.Sign.TheVariants.{Plus, Minus}
 use Rattle.c_base.specs.declared.operators.Rel.{Rel}
 use Rattle.c_base.specs.declared.operators.Rel.TheVariants.{Lt as RelLt, Le as RelLe, Gt as RelGt, Ge as RelGe, Eq as RelEq, Ne as RelNe}
 use Rattle.first_program.specs.Source.{Sum, Number as SumNumber, Variable as SumVariable, Parenthesised, Run, Addends, End, Then, Test, Compare, Enclosed, Stmt as SourceStmt, Assign as SourceAssign, Return as SourceReturn, If as SourceIf, While as SourceWhile, Block as SourceBlock, Nothing as SourceNothing, Stmts as SourceStmts, Done as SourceDone, Next as SourceNext, Program as SourceProgram, count, count_all}
-use Rattle.c_prog.specs.Syntax.{Variable, Expr, Number, Load, Binary, Assign, Stmt, Expression, Return, If, While, Block, Nothing, Stmts, Done, Next, Base, Function, Program, numbers_from}
+use Rattle.c_prog.specs.Syntax.{Variable, Expr, Number, Load, Binary, Assign, Stmt, Expression, Return, If, While, Block, Nothing, Stmts, Done, Next, Returns, Base, Function, Program, numbers_from}
+
+-- the one type of the language
+abbrev pub int_type : Scalar
+int_type = Integer Int
 
 abbrev pub sign_op : Sign → BinOp
 sign_op Plus = Add
@@ -19,7 +26,7 @@ sign_op Minus = Sub
 abbrev mutual
   pub sum_expr : Sum → Expr
   sum_expr (SumNumber n) = Number Int (pos n)
-  sum_expr (SumVariable base) = Load Int (Variable base.0)
+  sum_expr (SumVariable base) = Load int_type (Variable base.0)
   sum_expr (Parenthesised s) = sum_expr s
   sum_expr (Run s more) = run_expr (sum_expr s) more
 
@@ -42,7 +49,7 @@ test_expr (Enclosed t) = test_expr t
 -- statements, numbered from `id`
 abbrev mutual
   pub stmt_of : ℕ → SourceStmt → Stmt
-  stmt_of id (SourceAssign target value) = Expression id (Assign Int (Variable target.0) (sum_expr value))
+  stmt_of id (SourceAssign target value) = Expression id (Assign int_type (Variable target.0) (sum_expr value))
   stmt_of id (SourceReturn value) = Return id (sum_expr value)
   stmt_of id (SourceIf test s t) = If id (test_expr test) (stmt_of (suc id) s) (stmt_of (suc id + count s) t)
   stmt_of id (SourceWhile test s) = While id (test_expr test) (stmt_of (suc id) s)
@@ -66,6 +73,7 @@ bases_of variables = record { name = main_name; size = 1; sort = Func; readonly 
 abbrev pub main_of : SourceProgram → Function
 main_of p = record {
   base = 0;
+  result = Returns int_type;
   formals = [];
   locals = numbers_from 1 (length p.variables);
   body = stmts_of 1 p.body;
@@ -74,6 +82,7 @@ main_of p = record {
 
 abbrev pub meaning_of : SourceProgram → Program
 meaning_of p = record {
+  machine = Lp64;
   bases = bases_of p.variables;
   functions = main_of p ∷ [];
   entry = 0;

@@ -1,24 +1,27 @@
-use Rattle.std.proofs.Common.{◌≡◌}
+use Rattle.std.proofs.Common.{◌≡◌, refl}
 use Rattle.first_program.specs.SourceViews.{program_of}
-use Rattle.eva_top.proofs.Answering.{untouched, noted, reported, memory_noted, form_text}
+use Rattle.eva_top.specs.declared.status.Refusal.TheVariants.{Form}
+use Rattle.eva_top.specs.declared.status.Status.TheVariants.{Refused, Memory}
+use Rattle.eva_top.proofs.Answering.{untouched, noted, note_put, reported}
 use Rattle.eva_top.proofs.command.analyse_tokens.Goals as goal
 
 pub returns-in-Err : goal.returns-in-Err
-returns-in-Err g c = λ call bytes read cut out notes. memory_noted call _ _ _ _ c.note_memory.result notes (untouched call.out _ _ _ out) c.note_memory.ensures
+returns-in-Err g c = λ call bytes read cut out notes. noted call _ _ _ Memory c.note_memory.result notes refl (untouched call.out _ out) c.note_memory.ensures
 
 pub returns-in-Ok-None : goal.returns-in-Ok-None
 returns-in-Ok-None g c = λ call bytes read cut out notes.
-    noted call _ _ _ _ _ _ c.put_text.result notes
-    (record { bytes = bytes; tokens = c.args.tokens.now; read = read; cut = cut; none = rw c.in-Ok-None.field-0-is at c.in-Ok-None.ensures.exact }, form_text) (untouched call.out _ _ _ out) c.put_text.ensures
+    note_put call (Refused (Form _)) _ _ _ c.note.result notes (untouched call.out _ out)
+    (record { bytes = bytes; tokens = c.args.tokens.now; read = read; cut = cut; none = rw c.in-Ok-None.field-0-is at c.in-Ok-None.ensures.exact }, refl)
+    (c.note.ensures _ c.make_form_text-text.ensures)
 
 pub returns-in-Err-make_report : goal.returns-in-Err-make_report
 returns-in-Err-make_report g c = λ call bytes read cut out notes.
-    memory_noted call _ _ _ _ c.note_memory-in-Err-make_report.result notes (untouched call.out _ _ _ out) c.note_memory-in-Err-make_report.ensures
+    noted call _ _ _ Memory c.note_memory-in-Err-make_report.result notes refl (untouched call.out _ out) c.note_memory-in-Err-make_report.ensures
 
 pub returns : goal.returns
 returns g c = λ call bytes read cut out notes.
     let exact = rw c.in-Ok-Some.field-0-is at c.in-Ok-Some.ensures.exact in
-    reported call c.in-Ok.printed.text.items _ _ _ _ c.in-Ok.printed.alarmed c.put_text-in-Ok.result out
+    reported call c.in-Ok.printed.text.items _ _ c.in-Ok.printed.alarmed c.put_text.result out
     (record {
       bytes = bytes;
       program = program_of c.in-Ok-Some.program;
@@ -26,4 +29,4 @@ returns g c = λ call bytes read cut out notes.
       source = record { tokens = c.args.tokens.now; cut = cut; spells = exact.0 };
       report = c.in-Ok.ensures;
     })
-    (untouched call.notes _ _ _ notes) (rw (c.report_status.ensures, c.as_slice.ensures.value) at c.put_text-in-Ok.ensures)
+    (untouched call.notes _ notes) (rw (c.report_status.ensures, c.as_slice.ensures.value) at c.put_text.ensures)

@@ -1,16 +1,17 @@
 use Rattle.std.proofs.Common.{refl, ◌≡◌, ◌≢◌, ◌∙◌, ap, sym, rules, length, List, [], ◌∷◌}
 use Rattle.std.specs.Prelude.{string_bytes}
-use Rattle.eva_top.proofs.Answering.{noted, memory_noted, first_word, length-map, good_reported}
+use Rattle.eva_top.specs.declared.status.Status.TheVariants.{Usage, Memory}
+use Rattle.eva_top.proofs.Answering.{noted, first_word, length-map, good_reported}
 use Rattle.eva_top.proofs.command.eva.Goals as goal
 
 pub returns-then-len-ne1-clause-answer : goal.returns-then-len-ne1-clause-answer
 returns-then-len-ne1-clause-answer g c =
     let many : length c.args.words.now.items ≢ 1 = search rules in
-    noted _ _ _ _ _ _ _ c.put_text.result refl
-    ((λ e. many (sym (length-map string_bytes c.args.words.now.items) ∙ e)), refl) refl c.put_text.ensures
+    noted _ _ _ _ Usage c.note_usage.result refl
+    ((λ e. many (sym (length-map string_bytes c.args.words.now.items) ∙ e)), refl) refl c.note_usage.ensures
 
 pub returns-in-Err-clause-answer : goal.returns-in-Err-clause-answer
-returns-in-Err-clause-answer g c = memory_noted _ _ _ _ _ c.note_memory.result refl refl c.note_memory.ensures
+returns-in-Err-clause-answer g c = noted _ _ _ _ Memory c.note_memory.result refl refl refl c.note_memory.ensures
 
 pub returns-in-Ok-clause-answer : goal.returns-in-Ok-clause-answer
 returns-in-Ok-clause-answer g c =

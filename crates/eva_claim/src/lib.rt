@@ -1,0 +1,2 @@
+//! What a report claims of a program, in `specs/`: definitions alone.
+#![tactic(auto)]

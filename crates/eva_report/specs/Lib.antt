@@ -1,0 +1,4 @@
+pub mod Report
+pub mod Views
+pub mod Grammar
+pub mod Meaning

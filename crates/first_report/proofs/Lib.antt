@@ -1,0 +1,9 @@
+pub mod Entries
+pub mod Lines
+pub mod Describing
+pub mod Placing
+pub mod Soundness
+pub mod Validity
+pub mod Numbered
+pub mod Ruling
+pub mod Claiming
