@@ -6,9 +6,8 @@ use eva_io::std_sink::StdSink;
 use eva_top::command::{eva, note_memory, note_usage};
 use eva_top::status::Status;
 use std::alloc::AllocError;
-use std::env;
-use std::io;
 use std::process::ExitCode;
+use std::{env, io};
 
 // The words behind the program's name.
 fn words_of(rt: &HostRuntime) -> io::Result<Vec<String>> {

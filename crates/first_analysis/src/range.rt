@@ -81,11 +81,7 @@ impl Range {
     }
 
     /// The numbers of both. With marks the first is widened to them.
-    pub fn merge(
-        kept: Option<Range>,
-        other: Option<Range>,
-        marks: Option<&[i64]>,
-    ) -> Option<Range>
+    pub fn merge(kept: Option<Range>, other: Option<Range>, marks: Option<&[i64]>) -> Option<Range>
         ensures first { IncludesRange result kept }
         ensures second { IncludesRange result other }
         ensures there { is_there result ≡ (is_there kept || is_there other) }

@@ -1,10 +1,10 @@
+use c_base::name::Name;
 use eva_io::file_store::FileStore;
 use eva_io::mem_sink::MemSink;
 use eva_io::mem_store::MemStore;
 use eva_io::sink::{PutFault, Sink, write_whole};
 use eva_io::std_sink::StdSink;
 use eva_io::store::{LoadFault, Store};
-use c_base::name::Name;
 use std::alloc::{AllocError, Global};
 use std::fmt::Display;
 use std::io::{ErrorKind, Print};
