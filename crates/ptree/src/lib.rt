@@ -1,4 +1,5 @@
-//! Persistent maps from `u64`, as trees by the bits of the keys (C. Okasaki and A. Gill, Fast Mergeable Integer Maps, 1998).
+//! Persistent maps from `u64`, as trees by the bits of the keys
+//! (C. Okasaki and A. Gill, Fast Mergeable Integer Maps, 1998).
 #![tactic(auto)]
 
 ghost use Rattle.std.specs.Prelude.{◌≡◌, ℕ, [], IfOk, Some, None, if◌then◌else◌, nat_eq};
