@@ -42,7 +42,8 @@ fn keep(tokens: &mut Vec<Token>, count: u64, token: Token) -> Result<(), AllocEr
 /// 2,000,000 tokens with `TooMany` and their number; and where memory is wanting the answer is `Memory`. The time is linear in the file.
 pub fn lex(alloc: Global, bytes: &[u8]) -> Result<Vec<Token>, LexFault>
     requires { length bytes.now < 2 ^ 32 - 1 }
-    ensures { MatchResult result (λ tokens. AreAnswered bytes.now tokens.items) (IsRefusal bytes.now) }
+    ensures { MatchResult result (λ tokens. AreAnswered bytes.now tokens.items)
+        (IsRefusal bytes.now) }
 {
     let mut tokens = Vec::new(alloc);
     let mut count: u64 = 0;

@@ -41,11 +41,17 @@ pub fn binary(op: BinOp, k: IntKind, m: Machine, a: &Ival, b: &Ival) -> Answer
     ensures value { result.value.shape ≡ binary_value op k m a.now.shape b.now.shape }
     ensures kind_set { result.kinds ≡ binary_kinds op k m a.now.shape b.now.shape }
     ensures holds { (n : ℤ) → Gives op k m a.now b.now (Ok n) → Holds result.value n }
-    ensures kinds { (kind : Kind) → IsTrue (allowed result.kinds kind) ↔ Gives op k m a.now b.now (Err kind) }
-    ensures exact { IsSharp op (is_signed k) (width_of k m) (typed (is_signed k) (width_of k m) a.now.shape) (typed (is_signed k) (width_of k m) b.now.shape)
-        → (HoldsNine (λ n. Gives op k m a.now b.now (Ok n)) → ⊥) → (n : ℤ) → Holds result.value n → Gives op k m a.now b.now (Ok n) }
-    ensures least_sum { op ≡ BinOp.Add → AllInRange (λ x y. x +ℤ y) k m a.now b.now → IsLeast (λ n. Gives op k m a.now b.now (Ok n)) result.value.shape }
-    ensures least_difference { op ≡ BinOp.Sub → AllInRange (λ x y. x -ℤ y) k m a.now b.now → IsLeast (λ n. Gives op k m a.now b.now (Ok n)) result.value.shape }
+    ensures kinds { (kind : Kind) → IsTrue (allowed result.kinds kind)
+        ↔ Gives op k m a.now b.now (Err kind) }
+    ensures exact { IsSharp op (is_signed k) (width_of k m)
+        (typed (is_signed k) (width_of k m) a.now.shape)
+        (typed (is_signed k) (width_of k m) b.now.shape)
+        → (HoldsNine (λ n. Gives op k m a.now b.now (Ok n)) → ⊥) → (n : ℤ) → Holds result.value n
+        → Gives op k m a.now b.now (Ok n) }
+    ensures least_sum { op ≡ BinOp.Add → AllInRange (λ x y. x +ℤ y) k m a.now b.now
+        → IsLeast (λ n. Gives op k m a.now b.now (Ok n)) result.value.shape }
+    ensures least_difference { op ≡ BinOp.Sub → AllInRange (λ x y. x -ℤ y) k m a.now b.now
+        → IsLeast (λ n. Gives op k m a.now b.now (Ok n)) result.value.shape }
 {
     let format = format_of(k, m);
     let left = typed(format, a);
@@ -84,9 +90,12 @@ pub fn negate(k: IntKind, m: Machine, a: &Ival) -> Answer
     ensures value { result.value.shape ≡ negate_value k m a.now.shape }
     ensures kind_set { result.kinds ≡ negate_kinds k m a.now.shape }
     ensures holds { (n : ℤ) → GivesNegated k m a.now (Ok n) → Holds result.value n }
-    ensures kinds { (kind : Kind) → IsTrue (allowed result.kinds kind) ↔ GivesNegated k m a.now (Err kind) }
-    ensures exact { (HoldsNine (λ n. GivesNegated k m a.now (Ok n)) → ⊥) → (n : ℤ) → Holds result.value n → GivesNegated k m a.now (Ok n) }
-    ensures least { AllNegatedInRange k m a.now → IsLeast (λ n. GivesNegated k m a.now (Ok n)) result.value.shape }
+    ensures kinds { (kind : Kind) → IsTrue (allowed result.kinds kind)
+        ↔ GivesNegated k m a.now (Err kind) }
+    ensures exact { (HoldsNine (λ n. GivesNegated k m a.now (Ok n)) → ⊥) → (n : ℤ)
+        → Holds result.value n → GivesNegated k m a.now (Ok n) }
+    ensures least { AllNegatedInRange k m a.now
+        → IsLeast (λ n. GivesNegated k m a.now (Ok n)) result.value.shape }
 {
     let format = format_of(k, m);
     let set = typed(format, a);

@@ -45,7 +45,8 @@ pub fn both(a: bool, b: bool) -> bool
 fn product_extent(a: &Ival, b: &Ival) -> u128
     requires left { extent (bounds_of a.now.shape) ≤ 2 ^ 63 + 2 ^ 63 - 1 }
     requires right { extent (bounds_of b.now.shape) ≤ 2 ^ 63 + 2 ^ 63 - 1 }
-    ensures value { result ≡ min (extent (bounds_of a.now.shape) * extent (bounds_of b.now.shape)) (2 ^ 65) }
+    ensures value { result
+        ≡ min (extent (bounds_of a.now.shape) * extent (bounds_of b.now.shape)) (2 ^ 65) }
     ensures small { result ≤ 2 ^ 65 }
 {
     (extent(a) * extent(b)).min(1 << 65)

@@ -91,7 +91,8 @@ fn part_line(part: Part, format: Format, set: &Ival, y: i128) -> Ival
 /// The quotients or remainders of the numbers of a set by each of `others`, in a type.
 pub(crate) fn part_lines(part: Part, format: Format, set: &Ival, others: &[i128]) -> Ival
     requires { (y : ℤ) → Among others.now y → FitsBits format.signed format.width y }
-    ensures { result.shape ≡ part_lines part format.signed format.width none set.now.shape others.now }
+    ensures { result.shape
+        ≡ part_lines part format.signed format.width none set.now.shape others.now }
 {
     let mut all = Ival::empty();
     for other in others {

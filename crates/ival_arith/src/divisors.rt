@@ -141,7 +141,8 @@ fn with_outcome(
 ) -> Option<Ival>
     requires left { FitsBits format.signed format.width x }
     requires right { FitsBits format.signed format.width y }
-    ensures { shape_option result ≡ going_on left (with_outcome part format.signed format.width x y set.now.shape) }
+    ensures { shape_option result
+        ≡ going_on left (with_outcome part format.signed format.width x y set.now.shape) }
 {
     let outcome = apply_binary(op_of(part), format.kind, format.machine, x, y);
     going_on(&with_result(set.copy(), outcome), left)
@@ -152,7 +153,8 @@ fn with_places(set: &Ival, part: Part, format: Format, x: i128, run: Progression
     requires left { FitsBits format.signed format.width x }
     requires long { IsLongRun run }
     requires right { (y : ℤ) → Steps run y → FitsBits format.signed format.width y }
-    ensures { shape_option result ≡ with_divisors part format.signed format.width x (Shape.Many run) set.now.shape }
+    ensures { shape_option result
+        ≡ with_divisors part format.signed format.width x (Shape.Many run) set.now.shape }
 {
     let count = run.high.abs_diff(run.low) / run.stride + 1;
     let mut all = set.copy();
@@ -173,7 +175,8 @@ fn with_places(set: &Ival, part: Part, format: Format, x: i128, run: Progression
 fn with_divisors(set: &Ival, part: Part, format: Format, x: i128, near: &Ival) -> Option<Ival>
     requires left { FitsBits format.signed format.width x }
     requires right { InType format.signed format.width near.now }
-    ensures { shape_option result ≡ with_divisors part format.signed format.width x near.now.shape set.now.shape }
+    ensures { shape_option result
+        ≡ with_divisors part format.signed format.width x near.now.shape set.now.shape }
 {
     match near.shape() {
         Shape::Few(few) => Some(with_row(set, op_of(part), format, x, few.as_slice())),
@@ -186,7 +189,8 @@ fn with_divisors(set: &Ival, part: Part, format: Format, x: i128, near: &Ival) -
 fn number_divided(set: &Ival, part: Part, format: Format, x: i128, divisors: &Ival) -> Option<Ival>
     requires left { FitsBits format.signed format.width x }
     requires right { InType format.signed format.width divisors.now }
-    ensures { shape_option result ≡ number_divided part format.signed format.width divisors.now.shape set.now.shape x }
+    ensures { shape_option result
+        ≡ number_divided part format.signed format.width divisors.now.shape set.now.shape x }
 {
     let size = x.unsigned_abs() as i128;
     let near = clipped(divisors, -size, size);
@@ -203,7 +207,9 @@ pub(crate) fn numbers_divided(
 ) -> Option<Ival>
     requires left { (x : ℤ) → Among numbers.now x → FitsBits format.signed format.width x }
     requires right { InType format.signed format.width divisors.now }
-    ensures { shape_option result ≡ numbers_divided part format.signed format.width divisors.now.shape (Some none) numbers.now }
+    ensures { shape_option result
+        ≡ numbers_divided part format.signed format.width divisors.now.shape
+        (Some none) numbers.now }
 {
     let mut all = Ival::empty();
     for x in numbers {

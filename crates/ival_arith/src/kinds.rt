@@ -48,7 +48,8 @@ fn product(a: i128, b: i128) -> i128
 
 /// Some number from `low` to `high` is out of the type's range.
 fn leave(format: Format, low: i128, high: i128) -> bool
-    ensures { result ≡ (int_lt low (least_of format.signed format.width) || int_lt (greatest_of format.signed format.width) high) }
+    ensures { result ≡ (int_lt low (least_of format.signed format.width)
+        || int_lt (greatest_of format.signed format.width) high) }
 {
     if low < format.least() {
         true
@@ -59,7 +60,8 @@ fn leave(format: Format, low: i128, high: i128) -> bool
 
 /// Some sum is out of the type's range.
 fn sums_leave(format: Format, a: &Ival, b: &Ival) -> bool
-    ensures { result ≡ sums_leave (least_of format.signed format.width) (greatest_of format.signed format.width) (bounds_of a.now.shape) (bounds_of b.now.shape) }
+    ensures { result ≡ sums_leave (least_of format.signed format.width)
+        (greatest_of format.signed format.width) (bounds_of a.now.shape) (bounds_of b.now.shape) }
 {
     let Some((low_a, high_a)) = a.bounds() else {
         return false;
@@ -75,7 +77,10 @@ fn ends_leave(format: Format, n: i128, low: i128, high: i128) -> bool
     requires factor { IsShort n }
     requires low { IsShort low }
     requires high { IsShort high }
-    ensures { result ≡ (is_out (least_of format.signed format.width) (greatest_of format.signed format.width) (n *ℤ low) || is_out (least_of format.signed format.width) (greatest_of format.signed format.width) (n *ℤ high)) }
+    ensures { result ≡ (is_out (least_of format.signed format.width)
+        (greatest_of format.signed format.width) (n *ℤ low)
+        || is_out (least_of format.signed format.width) (greatest_of format.signed format.width)
+        (n *ℤ high)) }
 {
     let first = product(n, low);
     let last = product(n, high);
@@ -92,7 +97,8 @@ pub(crate) fn either(a: bool, b: bool) -> bool
 fn products_leave(format: Format, a: &Ival, b: &Ival) -> bool
     requires left { (n : ℤ) → Holds a.now n → IsShort n }
     requires right { (n : ℤ) → Holds b.now n → IsShort n }
-    ensures { result ≡ products_leave (least_of format.signed format.width) (greatest_of format.signed format.width) (bounds_of a.now.shape) (bounds_of b.now.shape) }
+    ensures { result ≡ products_leave (least_of format.signed format.width)
+        (greatest_of format.signed format.width) (bounds_of a.now.shape) (bounds_of b.now.shape) }
 {
     let Some((low_a, high_a)) = a.bounds() else {
         return false;
@@ -107,7 +113,8 @@ fn products_leave(format: Format, a: &Ival, b: &Ival) -> bool
 
 /// The least number of the type is divided by -1.
 fn quotient_leaves(format: Format, a: &Ival, b: &Ival) -> bool
-    ensures { result ≡ (holds_number a.now.shape (least_of format.signed format.width) && holds_number b.now.shape (negsuc 0)) }
+    ensures { result ≡ (holds_number a.now.shape (least_of format.signed format.width)
+        && holds_number b.now.shape (negsuc 0)) }
 {
     if holds_number(a, format.least()) {
         holds_number(b, -1)

@@ -61,9 +61,12 @@ fn step_lines(
     requires run { IsLongRun run }
     requires low { FitsBits format.signed format.width run.low }
     requires high { FitsBits format.signed format.width run.high }
-    requires factors { (y : ℤ) → Among (steps_from factors.low factors.stride count) y → FitsBits format.signed format.width y }
+    requires factors { (y : ℤ) → Among (steps_from factors.low factors.stride count) y
+        → FitsBits format.signed format.width y }
     requires small { factors.stride ≤ 2 ^ 122 }
-    ensures { result.shape ≡ lines_onto format.signed format.width set.now.shape run (steps_from factors.low factors.stride count) }
+    ensures { result.shape
+        ≡ lines_onto format.signed format.width set.now.shape run
+        (steps_from factors.low factors.stride count) }
 {
     if count == 0 {
         return set.copy();
@@ -84,7 +87,8 @@ fn run_lines(set: &Ival, format: Format, run: Progression, factors: Progression)
     requires high { FitsBits format.signed format.width run.high }
     requires long { IsLongRun factors }
     requires factors { (y : ℤ) → Steps factors y → FitsBits format.signed format.width y }
-    ensures { shape_option result ≡ set_lines format.signed format.width set.now.shape run (Shape.Many factors) }
+    ensures { shape_option result
+        ≡ set_lines format.signed format.width set.now.shape run (Shape.Many factors) }
 {
     let more = factors.high.abs_diff(factors.low) / factors.stride;
     if more < MOST {
@@ -101,7 +105,8 @@ fn set_lines(set: &Ival, format: Format, run: Progression, factors: &Ival) -> Op
     requires low { FitsBits format.signed format.width run.low }
     requires high { FitsBits format.signed format.width run.high }
     requires factors { InType format.signed format.width factors.now }
-    ensures { shape_option result ≡ set_lines format.signed format.width set.now.shape run factors.now.shape }
+    ensures { shape_option result
+        ≡ set_lines format.signed format.width set.now.shape run factors.now.shape }
 {
     match factors.shape() {
         Shape::Few(few) => Some(lines_onto(set, format, run, few.as_slice())),
@@ -165,7 +170,8 @@ pub(crate) fn all_repeat(width: u32, p: Progression, q: Progression) -> bool
 fn few_products(format: Format, a: &Ival, b: &Ival) -> Ival
     requires left { InType format.signed format.width a.now }
     requires right { InType format.signed format.width b.now }
-    ensures { result.shape ≡ few_value BinOp.Mul format.signed format.width a.now.shape b.now.shape }
+    ensures { result.shape
+        ≡ few_value BinOp.Mul format.signed format.width a.now.shape b.now.shape }
 {
     match a.shape() {
         Shape::Few(few) => few_with(format, a, few.as_slice(), b),
@@ -178,7 +184,8 @@ fn few_with(format: Format, a: &Ival, numbers: &[i128], b: &Ival) -> Ival
     requires few { a.now.shape ≡ Shape.Few (record { items = numbers.now }) }
     requires left { InType format.signed format.width a.now }
     requires right { InType format.signed format.width b.now }
-    ensures { result.shape ≡ few_value BinOp.Mul format.signed format.width a.now.shape b.now.shape }
+    ensures { result.shape
+        ≡ few_value BinOp.Mul format.signed format.width a.now.shape b.now.shape }
 {
     match b.shape() {
         Shape::Few(few) => few_results(BinOp::Mul, format, numbers, few.as_slice()),
@@ -192,7 +199,8 @@ pub(crate) fn first_products(format: Format, p: Progression, q: Progression) -> 
     requires right { IsLongRun q }
     requires first { (x : ℤ) → Steps p x → FitsBits format.signed format.width x }
     requires second { (y : ℤ) → Steps q y → FitsBits format.signed format.width y }
-    ensures { result.shape ≡ gathered (rows BinOp.Mul format.signed format.width (firsts p) (firsts q)) }
+    ensures { result.shape
+        ≡ gathered (rows BinOp.Mul format.signed format.width (firsts p) (firsts q)) }
 {
     few_products(format, &eight(p.low, p.stride), &eight(q.low, q.stride))
 }

@@ -86,7 +86,8 @@ fn few_sums(set: &Ival, others: &Ival, lo: i128, hi: i128) -> Ival
     requires lo { IsNumber lo }
     requires hi { IsNumber hi }
     requires sums { (x y : ℤ) → Holds set.now x → Holds others.now y → IsNumber (x +ℤ y) }
-    ensures { (few : _) → others.now.shape ≡ Shape.Few few → result.shape ≡ sums_onto lo hi none set.now.shape few.items }
+    ensures { (few : _) → others.now.shape ≡ Shape.Few few → result.shape
+        ≡ sums_onto lo hi none set.now.shape few.items }
 {
     match others.shape() {
         Shape::Few(few) => sums_with(set, few.as_slice(), lo, hi),

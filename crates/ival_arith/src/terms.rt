@@ -89,7 +89,8 @@ fn far(a: u128, b: u128) -> u128
 
 /// The numbers of a set, negated where `negative` says so.
 fn turned(set: &Ival, negative: bool) -> Ival
-    ensures { result.shape ≡ cond negative (all_changed Change.Negative set.now.shape) set.now.shape }
+    ensures { result.shape
+        ≡ cond negative (all_changed Change.Negative set.now.shape) set.now.shape }
 {
     if negative {
         changed(set, Change::Negative)
@@ -129,7 +130,8 @@ fn scaled_by(set: &Ival, others: &[i128]) -> Ival
 /// Products of two long sets.
 fn product_hull(a: &Ival, b: &Ival) -> Ival
     ensures { result.shape
-        ≡ around (is_natural (bounds_of a.now.shape) && is_natural (bounds_of b.now.shape)) (min (extent (bounds_of a.now.shape) * extent (bounds_of b.now.shape)) (2 ^ 120)) }
+        ≡ around (is_natural (bounds_of a.now.shape) && is_natural (bounds_of b.now.shape))
+        (min (extent (bounds_of a.now.shape) * extent (bounds_of b.now.shape)) (2 ^ 120)) }
 {
     around(
         both(is_natural(a), is_natural(b)),
@@ -218,7 +220,8 @@ fn is_out(x: i128, y: i128) -> bool
 
 /// Some product is below -2^120 or above 2^120.
 fn products_leave(a: &Ival, b: &Ival) -> bool
-    ensures { result ≡ products_leave (neg_ℤ (pos (2 ^ 120))) (pos (2 ^ 120)) (bounds_of a.now.shape) (bounds_of b.now.shape) }
+    ensures { result ≡ products_leave (neg_ℤ (pos (2 ^ 120))) (pos (2 ^ 120))
+        (bounds_of a.now.shape) (bounds_of b.now.shape) }
 {
     let Some((low_a, high_a)) = a.bounds() else {
         return false;
@@ -257,8 +260,10 @@ fn exact_term(op: Term, a: &Ival, b: &Ival) -> Option<Ival>
 pub fn exact_mul(a: &Ival, b: &Ival) -> Option<Ival>
     ensures value { shape_option result ≡ exact_term Term.Product a.now.shape b.now.shape }
     ensures stays { IfSome result (λ v. Stays (λ x y. x *ℤ y) a.now b.now) }
-    ensures holds { IfSome result (λ v. (n : ℤ) → Outcome (λ x y. x *ℤ y) a.now b.now n → Holds v n) }
-    ensures single { (x y : ℤ) → IsOnly a.now x → IsOnly b.now y → IfSome result (λ v. IsOnly v (x *ℤ y)) }
+    ensures holds { IfSome result (λ v. (n : ℤ) → Outcome (λ x y. x *ℤ y) a.now b.now n
+        → Holds v n) }
+    ensures single { (x y : ℤ) → IsOnly a.now x → IsOnly b.now y
+        → IfSome result (λ v. IsOnly v (x *ℤ y)) }
     ensures leaves { IfNone result (Leaves (λ x y. x *ℤ y) a.now b.now) }
 {
     exact_term(Term::Product, a, b)
@@ -269,7 +274,8 @@ pub fn exact_div(a: &Ival, b: &Ival) -> Option<Ival>
     ensures value { shape_option result ≡ exact_term Term.Quotient a.now.shape b.now.shape }
     ensures divided { IfSome result (λ v. (x : ℤ) → Holds a.now x → Holds b.now (pos 0) → ⊥) }
     ensures holds { IfSome result (λ v. (n : ℤ) → Outcome int_div a.now b.now n → Holds v n) }
-    ensures single { (x y : ℤ) → IsOnly a.now x → IsOnly b.now y → IfSome result (λ v. IsOnly v (int_div x y)) }
+    ensures single { (x y : ℤ) → IsOnly a.now x → IsOnly b.now y
+        → IfSome result (λ v. IsOnly v (int_div x y)) }
     ensures undivided { IfNone result ((x : ℤ) × Holds a.now x × Holds b.now (pos 0)) }
 {
     exact_term(Term::Quotient, a, b)
@@ -280,7 +286,8 @@ pub fn exact_rem(a: &Ival, b: &Ival) -> Option<Ival>
     ensures value { shape_option result ≡ exact_term Term.Remainder a.now.shape b.now.shape }
     ensures divided { IfSome result (λ v. (x : ℤ) → Holds a.now x → Holds b.now (pos 0) → ⊥) }
     ensures holds { IfSome result (λ v. (n : ℤ) → Outcome int_rem a.now b.now n → Holds v n) }
-    ensures single { (x y : ℤ) → IsOnly a.now x → IsOnly b.now y → IfSome result (λ v. IsOnly v (int_rem x y)) }
+    ensures single { (x y : ℤ) → IsOnly a.now x → IsOnly b.now y
+        → IfSome result (λ v. IsOnly v (int_rem x y)) }
     ensures undivided { IfNone result ((x : ℤ) × Holds a.now x × Holds b.now (pos 0)) }
 {
     exact_term(Term::Remainder, a, b)

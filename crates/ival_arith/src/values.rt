@@ -31,7 +31,8 @@ pub(crate) fn with_result(all: Ival, outcome: Result<i128, Kind>) -> Ival
 pub(crate) fn with_row(set: &Ival, op: BinOp, format: Format, x: i128, others: &[i128]) -> Ival
     requires left { FitsKind format.kind format.machine x }
     requires right { (y : ℤ) → Among others.now y → FitsKind format.kind format.machine y }
-    ensures { result.shape ≡ with_numbers set.now.shape (row op format.signed format.width x others.now) }
+    ensures { result.shape
+        ≡ with_numbers set.now.shape (row op format.signed format.width x others.now) }
 {
     let mut all = set.copy();
     for y in others {

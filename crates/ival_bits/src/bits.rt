@@ -136,9 +136,13 @@ pub fn bitwise(op: BinOp, k: IntKind, m: Machine, a: &Ival, b: &Ival) -> Answer
     ensures value { result.value.shape ≡ bitwise_value op k m a.now.shape b.now.shape }
     ensures kind_set { result.kinds ≡ no_kinds }
     ensures holds { (n : ℤ) → Gives op k m a.now b.now (Ok n) → Holds result.value n }
-    ensures kinds { (kind : Kind) → IsTrue (allowed result.kinds kind) ↔ Gives op k m a.now b.now (Err kind) }
-    ensures exact { IsSharp op (is_signed k) (width_of k m) (typed (is_signed k) (width_of k m) a.now.shape) (typed (is_signed k) (width_of k m) b.now.shape)
-        → (HoldsNine (λ n. Gives op k m a.now b.now (Ok n)) → ⊥) → (n : ℤ) → Holds result.value n → Gives op k m a.now b.now (Ok n) }
+    ensures kinds { (kind : Kind) → IsTrue (allowed result.kinds kind)
+        ↔ Gives op k m a.now b.now (Err kind) }
+    ensures exact { IsSharp op (is_signed k) (width_of k m)
+        (typed (is_signed k) (width_of k m) a.now.shape)
+        (typed (is_signed k) (width_of k m) b.now.shape)
+        → (HoldsNine (λ n. Gives op k m a.now b.now (Ok n)) → ⊥) → (n : ℤ) → Holds result.value n
+        → Gives op k m a.now b.now (Ok n) }
 {
     let format = format_of(k, m);
     let left = typed(format, a);

@@ -53,7 +53,8 @@ fn cleared(format: Format, bits: u32, set: &Ival) -> Ival
 fn by_mask(format: Format, mask: i128, set: &Ival) -> Option<Ival>
     requires mask { FitsBits format.signed format.width mask }
     requires typed { InType format.signed format.width set.now }
-    ensures { shape_option result ≡ by_mask (mask_of mask) (mask_of (turned format.signed format.width mask)) set.now.shape }
+    ensures { shape_option result
+        ≡ by_mask (mask_of mask) (mask_of (turned format.signed format.width mask)) set.now.shape }
 {
     if let Some(bits) = mask_of(mask) {
         return Some(residues(set, power(bits)));
@@ -68,7 +69,8 @@ fn by_mask(format: Format, mask: i128, set: &Ival) -> Option<Ival>
 pub(crate) fn and_by(format: Format, masks: &Ival, set: &Ival) -> Option<Ival>
     requires masks { InType format.signed format.width masks.now }
     requires typed { InType format.signed format.width set.now }
-    ensures { shape_option result ≡ and_by format.signed format.width masks.now.shape set.now.shape }
+    ensures { shape_option result
+        ≡ and_by format.signed format.width masks.now.shape set.now.shape }
 {
     match masks.as_single() {
         None => None,

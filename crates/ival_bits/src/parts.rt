@@ -27,8 +27,10 @@ pub fn concat(low: &Ival, low_bits: u32, high: &Ival) -> Ival
     requires low { low_bits ≤ 64 }
     requires high { (h : ℤ) → Holds high.now h → (pos 0 ≤ℤ h) × (h <ℤ pos (2 ^ (64 - low_bits))) }
     ensures value { result.shape ≡ concatenated low_bits low.now.shape high.now.shape }
-    ensures holds { (l h : ℤ) → Holds low.now l → Holds high.now h → Holds result (glued low_bits l h) }
-    ensures single { (l h : ℤ) → IsOnly low.now l → IsOnly high.now h → IsOnly result (glued low_bits l h) }
+    ensures holds { (l h : ℤ) → Holds low.now l → Holds high.now h
+        → Holds result (glued low_bits l h) }
+    ensures single { (l h : ℤ) → IsOnly low.now l → IsOnly high.now h
+        → IsOnly result (glued low_bits l h) }
 {
     let rest = residues(low, power(low_bits));
     if low_bits == 64 {

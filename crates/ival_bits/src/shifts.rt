@@ -49,7 +49,8 @@ fn shifted_by(op: BinOp, format: Format, count: u32, set: &Ival) -> Ival
 /// The results of shifts by the counts that a set holds.
 #[tactic(auto, unfolding(crate::specs::Shifts::shifts))]
 fn shifts(op: BinOp, format: Format, set: &Ival, counts: &Ival) -> Ival
-    ensures { result.shape ≡ shifts op format.signed format.width set.now.shape counts.now.shape format.width }
+    ensures { result.shape
+        ≡ shifts op format.signed format.width set.now.shape counts.now.shape format.width }
 {
     let mut all = Ival::empty();
     for count in 0..format.width {
@@ -84,7 +85,8 @@ fn left_fails(format: Format, low: i128, high: i128, count: u32) -> bool
 
 /// Some shift of numbers of two sets is undefined.
 fn shift_fails(op: BinOp, format: Format, a: &Ival, b: &Ival) -> bool
-    ensures { result ≡ shift_fails op format.signed format.width (bounds_of a.now.shape) (bounds_of b.now.shape) }
+    ensures { result ≡ shift_fails op format.signed format.width (bounds_of a.now.shape)
+        (bounds_of b.now.shape) }
 {
     let Some((low, high)) = a.bounds() else {
         return false;
@@ -117,7 +119,8 @@ pub fn shift(op: BinOp, k: IntKind, m: Machine, a: &Ival, b: &Ival) -> Answer
     ensures value { result.value.shape ≡ shift_value op k m a.now.shape b.now.shape }
     ensures kind_set { result.kinds ≡ shift_kinds op k m a.now.shape b.now.shape }
     ensures holds { (n : ℤ) → GivesShifted op k m a.now b.now (Ok n) → Holds result.value n }
-    ensures kinds { (kind : Kind) → IsTrue (allowed result.kinds kind) ↔ GivesShifted op k m a.now b.now (Err kind) }
+    ensures kinds { (kind : Kind) → IsTrue (allowed result.kinds kind)
+        ↔ GivesShifted op k m a.now b.now (Err kind) }
     ensures exact { (HoldsNine (λ n. GivesShifted op k m a.now b.now (Ok n)) → ⊥) → (n : ℤ)
         → Holds result.value n → GivesShifted op k m a.now b.now (Ok n) }
 {

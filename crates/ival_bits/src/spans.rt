@@ -77,7 +77,8 @@ fn under(a: Ends, b: Ends) -> Ival
     requires left { IsEnds a }
     requires right { IsEnds b }
     requires natural { pos 0 ≤ℤ a.low }
-    ensures { result.shape ≡ run (pos 0) (cond (int_le (pos 0) b.low) (int_min a.high b.high) a.high) 1 }
+    ensures { result.shape
+        ≡ run (pos 0) (cond (int_le (pos 0) b.low) (int_min a.high b.high) a.high) 1 }
 {
     if is_natural(b) {
         run_from(0, a.high.min(b.high), 1)

@@ -60,7 +60,9 @@ fn greatest(bits: u32, signed: bool) -> i128
 /// The patterns of negative numbers, as these.
 fn negatives(bits: u32, patterns: &Ival) -> Ival
     requires { (0 < bits) × (bits ≤ 64) }
-    ensures { result.shape ≡ all_changed (Change.Plus (neg_ℤ (pos (2 ^ bits)))) (clipped (pos (2 ^ (bits - 1))) (pos (2 ^ bits - 1)) patterns.now.shape) }
+    ensures { result.shape
+        ≡ all_changed (Change.Plus (neg_ℤ (pos (2 ^ bits))))
+        (clipped (pos (2 ^ (bits - 1))) (pos (2 ^ bits - 1)) patterns.now.shape) }
 {
     let high = clipped(patterns, whole(bits - 1), last(bits));
     changed(&high, Change::Plus(negative(bits)))

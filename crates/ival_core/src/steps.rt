@@ -42,7 +42,8 @@ pub fn run_from(first: i128, high: i128, stride: u128) -> Ival
     requires order { first ≤ℤ high }
     requires moves { 0 < stride }
     ensures value { result.shape ≡ run_shape first stride (apart first high / stride) }
-    ensures numbers { (n : ℤ) → Holds result n ↔ Steps (record { low = first; high = high; stride = stride }) n }
+    ensures numbers { (n : ℤ) → Holds result n
+        ↔ Steps (record { low = first; high = high; stride = stride }) n }
 {
     let more = high.abs_diff(first) / stride;
     if more < 8 {
@@ -76,7 +77,11 @@ fn many_steps(first: i128, stride: u128, more: u128) -> Ival
     requires long { 8 ≤ more }
     requires moves { 0 < stride }
     ensures { result.shape
-        ≡ Shape.Many (record { low = first; high = first +ℤ pos (more * stride); stride = stride }) }
+        ≡ Shape.Many (record {
+          low = first;
+          high = first +ℤ pos (more * stride);
+          stride = stride;
+        }) }
 {
     Ival {
         shape: Shape::Many(Progression {

@@ -145,7 +145,10 @@ impl Progression {
 
     fn congruence(&self) -> (i128, i128)
         requires { IsLongRun self.now }
-        ensures { result ≡ (int_rem_euclid self.now.low (pos self.now.stride), pos self.now.stride) }
+        ensures { result ≡ (
+          int_rem_euclid self.now.low (pos self.now.stride),
+          pos self.now.stride,
+        ) }
     {
         let modulus = self.stride as i128;
         (self.low.rem_euclid(modulus), modulus)

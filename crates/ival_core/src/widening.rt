@@ -38,7 +38,8 @@ impl Ival {
 fn widen_from(low: i128, high: i128, joined: Ival, marks: &[i128]) -> Ival
     requires marks { AreMarks marks.now }
     requires held { Holds joined low }
-    ensures value { result.shape ≡ between marks.now low high joined.shape (bounds_of joined.shape) }
+    ensures value { result.shape
+        ≡ between marks.now low high joined.shape (bounds_of joined.shape) }
     ensures holds { Includes result joined }
     ensures how { Stays low high joined result ⊎ MovesTo marks.now low high joined result }
 {

@@ -1,7 +1,7 @@
 //! What C11 and GCC read in small files.
 use c_base::number::Span;
-use c_base::token::{LexSort, Word};
-use c_lex::{LexFault, lex};
+use c_base::token::{LexSort, Punctuator, Word};
+use c_lex::{LexFault, laws_of_pieces, lex, spelling_of};
 use std::alloc::{AllocError, Global};
 use std::test::Fail;
 
@@ -424,4 +424,11 @@ fn annotations(rt: HostRuntime) -> Result<(), Fail> {
     let misplaced = unlike_places(rt.alloc(), &ANNOTATIONS_PLACES)?;
     assert!(rt; misplaced.is_empty(), "{misplaced}");
     Ok(())
+}
+
+#[test]
+fn spellings(rt: HostRuntime) {
+    laws_of_pieces();
+    assert!(rt; spelling_of(Punctuator::Arrow) == b"->".as_slice());
+    assert!(rt; spelling_of(Punctuator::Equivalent) == b"<==>".as_slice());
 }

@@ -1,4 +1,5 @@
 //! C's operators at the edges of their types (C11 6.5).
+use c_base::format::format_of;
 use c_base::integer::{IntKind, Machine};
 use c_base::kind::Kind;
 use c_base::operators::{BinOp, UnOp, apply_binary, apply_unary, convert};
@@ -96,4 +97,14 @@ fn conversions_take_the_residue(rt: HostRuntime) {
     assert!(rt; convert(IntKind::UChar, M, -1) == 255);
     assert!(rt; convert(IntKind::LLong, M, ULONG_MAX) == -1);
     assert!(rt; convert(IntKind::UInt, M, INT_MIN) == 2147483648);
+}
+
+#[test]
+fn ranges_of_types(rt: HostRuntime) {
+    let int = format_of(INT, M);
+    assert!(rt; int.least() == INT_MIN && int.greatest() == INT_MAX);
+    let unsigned = format_of(IntKind::ULong, M);
+    assert!(rt; unsigned.least() == 0 && unsigned.greatest() == ULONG_MAX);
+    let boolean = format_of(IntKind::Bool, M);
+    assert!(rt; boolean.least() == 0 && boolean.greatest() == 1);
 }

@@ -12,7 +12,8 @@ impl<V: Drop> Node<V> {
     /// The tree with the value at the key.
     pub(crate) fn set(this: &Rc<Node<V>>, alloc: Global, key: u64, value: V) -> Mem<Rc<Node<V>>>
         requires { IsTree this.now.value }
-        ensures entries { IfOk result (λ n. entries n.value ≡ map.set (entries this.now.value) key value) }
+        ensures entries { IfOk result (λ n. entries n.value
+            ≡ map.set (entries this.now.value) key value) }
         ensures tree { IfOk result (λ n. IsTree n.value) }
     {
         match this.as_ref() {
@@ -46,7 +47,8 @@ impl<V: Drop> Node<V> {
     fn beside(this: &Rc<Node<V>>, alloc: Global, label: u64, key: u64, value: V) -> Mem<Rc<Node<V>>>
         requires tree { IsTree this.now.value }
         requires foreign { IsForeign label key (entries this.now.value) }
-        ensures entries { IfOk result (λ n. entries n.value ≡ map.set (entries this.now.value) key value) }
+        ensures entries { IfOk result (λ n. entries n.value
+            ≡ map.set (entries this.now.value) key value) }
         ensures tree { IfOk result (λ n. IsTree n.value) }
     {
         let leaf = Node::leaf(alloc, key, value)?;
@@ -68,7 +70,8 @@ impl<V: Drop> Node<V> {
         requires fork { IsFork bit middle (entries left.value) (entries right.now.value) }
         requires left { IsTree left.value }
         requires right { IsTree right.now.value }
-        ensures entries { IfOk result (λ n. entries n.value ≡ entries left.value ++ entries right.now.value) }
+        ensures entries { IfOk result (λ n. entries n.value
+            ≡ entries left.value ++ entries right.now.value) }
         ensures tree { IfOk result (λ n. IsTree n.value) }
     {
         Node::fork(alloc, bit, middle, left, right.clone()?)
@@ -85,7 +88,8 @@ impl<V: Drop> Node<V> {
         requires fork { IsFork bit middle (entries left.now.value) (entries right.value) }
         requires left { IsTree left.now.value }
         requires right { IsTree right.value }
-        ensures entries { IfOk result (λ n. entries n.value ≡ entries left.now.value ++ entries right.value) }
+        ensures entries { IfOk result (λ n. entries n.value
+            ≡ entries left.now.value ++ entries right.value) }
         ensures tree { IfOk result (λ n. IsTree n.value) }
     {
         Node::fork(alloc, bit, middle, left.clone()?, right)
@@ -102,7 +106,8 @@ impl<V: Drop> Node<V> {
         requires fork { IsFork bit middle (root_entries left) (entries right.now.value) }
         requires left { IsRoot left }
         requires right { IsTree right.now.value }
-        ensures entries { IfOk result (λ r. root_entries r ≡ root_entries left ++ entries right.now.value) }
+        ensures entries { IfOk result (λ r. root_entries r
+            ≡ root_entries left ++ entries right.now.value) }
         ensures tree { IfOk result (λ r. IsRoot r) }
     {
         Node::fork_of(alloc, bit, middle, left, Some(right.clone()?))
@@ -119,7 +124,8 @@ impl<V: Drop> Node<V> {
         requires fork { IsFork bit middle (entries left.now.value) (root_entries right) }
         requires left { IsTree left.now.value }
         requires right { IsRoot right }
-        ensures entries { IfOk result (λ r. root_entries r ≡ entries left.now.value ++ root_entries right) }
+        ensures entries { IfOk result (λ r. root_entries r
+            ≡ entries left.now.value ++ root_entries right) }
         ensures tree { IfOk result (λ r. IsRoot r) }
     {
         Node::fork_of(alloc, bit, middle, Some(left.clone()?), right)
@@ -128,7 +134,8 @@ impl<V: Drop> Node<V> {
     /// The tree without the key, or nothing where it has no other one.
     pub(crate) fn remove(this: &Rc<Node<V>>, alloc: Global, key: u64) -> Mem<Option<Rc<Node<V>>>>
         requires { IsTree this.now.value }
-        ensures entries { IfOk result (λ r. root_entries r ≡ map.remove (entries this.now.value) key) }
+        ensures entries { IfOk result (λ r. root_entries r
+            ≡ map.remove (entries this.now.value) key) }
         ensures tree { IfOk result (λ r. IsRoot r) }
     {
         match this.as_ref() {

@@ -1,4 +1,5 @@
-//! Persistent maps from `u64`, as trees by the bits of the keys (C. Okasaki and A. Gill, Fast Mergeable Integer Maps, 1998).
+//! Persistent maps from `u64`, as trees by the bits of the keys
+//! (C. Okasaki and A. Gill, Fast Mergeable Integer Maps, 1998).
 #![tactic(auto)]
 
 ghost use Rattle.std.specs.Prelude.{◌≡◌, ℕ, [], IfOk, Some, None, if◌then◌else◌, nat_eq};
@@ -117,7 +118,8 @@ impl<V: Drop> PTree<V> {
     /// The map with the value at the key. Fails where there is no memory.
     pub fn set(&self, alloc: Global, key: u64, value: V) -> Mem<PTree<V>>
         ensures value { IfOk result (λ t. t ≡ map.set self.now key value) }
-        ensures lookup { IfOk result (λ t. (k : ℕ) → map.get t k ≡ (if nat_eq key k then Some value else map.get self.now k)) }
+        ensures lookup { IfOk result (λ t. (k : ℕ) → map.get t k
+            ≡ (if nat_eq key k then Some value else map.get self.now k)) }
         ensures map { IfOk result (λ t. map.IsMap t) }
     {
         match &self.root {
@@ -133,7 +135,8 @@ impl<V: Drop> PTree<V> {
     /// The map without the key. Fails where there is no memory.
     pub fn remove(&self, alloc: Global, key: u64) -> Mem<PTree<V>>
         ensures value { IfOk result (λ t. t ≡ map.remove self.now key) }
-        ensures lookup { IfOk result (λ t. (k : ℕ) → map.get t k ≡ (if nat_eq key k then None else map.get self.now k)) }
+        ensures lookup { IfOk result (λ t. (k : ℕ) → map.get t k
+            ≡ (if nat_eq key k then None else map.get self.now k)) }
         ensures map { IfOk result (λ t. map.IsMap t) }
     {
         match &self.root {
@@ -147,7 +150,8 @@ impl<V: Drop> PTree<V> {
     /// The map that has at each key what the merger answers there. Fails where there is no memory, or the merger fails.
     pub fn merge<F: Merger<V>>(&self, alloc: Global, other: &PTree<V>, merger: &F) -> Mem<PTree<V>>
         ensures value { IfOk result (λ t. t ≡ map.merged (F.merged merger.now) self.now other.now) }
-        ensures lookup { IfOk result (λ t. (k : ℕ) → map.get t k ≡ map.answer_at (F.merged merger.now) k (map.get self.now k) (map.get other.now k)) }
+        ensures lookup { IfOk result (λ t. (k : ℕ) → map.get t k
+            ≡ map.answer_at (F.merged merger.now) k (map.get self.now k) (map.get other.now k)) }
         ensures map { IfOk result (λ t. map.IsMap t) }
     {
         Ok(PTree {

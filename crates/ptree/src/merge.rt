@@ -16,7 +16,8 @@ pub trait Merger<V> {
     /// The value at a key that has `a` in the first map and `b` in the second, if there is to be one.
     /// Asked only where one of the maps has the key. Fails where there is no memory.
     fn merge(&self, alloc: Global, key: u64, a: Option<&V>, b: Option<&V>) -> Mem<Option<V>>
-        ensures { IfOk result (λ r. r ≡ merged self.now key (option_copied a.entry) (option_copied b.entry)) };
+        ensures { IfOk result (λ r. r
+            ≡ merged self.now key (option_copied a.entry) (option_copied b.entry)) };
 }
 
 /// How two trees lie to one another.
@@ -139,7 +140,8 @@ impl<V: Drop> Node<V> {
         requires apart { AreApart low high (root_entries left) (root_entries right) }
         requires left { IsRoot left }
         requires right { IsRoot right }
-        ensures entries { IfOk result (λ r. root_entries r ≡ root_entries left ++ root_entries right) }
+        ensures entries { IfOk result (λ r. root_entries r
+            ≡ root_entries left ++ root_entries right) }
         ensures tree { IfOk result (λ r. IsRoot r) }
     {
         match (left, right) {
@@ -152,7 +154,8 @@ impl<V: Drop> Node<V> {
     /// The merge with a second map that has none of the keys.
     fn merge_first<F: Merger<V>>(&self, alloc: Global, f: &F) -> Mem<Option<Rc<Node<V>>>>
         requires { IsTree self.now }
-        ensures entries { IfOk result (λ r. root_entries r ≡ map.merged (F.merged f.now) (entries self.now) []) }
+        ensures entries { IfOk result (λ r. root_entries r
+            ≡ map.merged (F.merged f.now) (entries self.now) []) }
         ensures tree { IfOk result (λ r. IsRoot r) }
     {
         match self {
@@ -176,7 +179,8 @@ impl<V: Drop> Node<V> {
     /// The merge with a first map that has none of the keys.
     fn merge_second<F: Merger<V>>(&self, alloc: Global, f: &F) -> Mem<Option<Rc<Node<V>>>>
         requires { IsTree self.now }
-        ensures entries { IfOk result (λ r. root_entries r ≡ map.merged (F.merged f.now) [] (entries self.now)) }
+        ensures entries { IfOk result (λ r. root_entries r
+            ≡ map.merged (F.merged f.now) [] (entries self.now)) }
         ensures tree { IfOk result (λ r. IsRoot r) }
     {
         match self {
@@ -206,7 +210,8 @@ impl<V: Drop> Node<V> {
         requires first { IsTree a.now }
         requires second { IsTree b.now }
         requires apart { Meets a.now b.now Meeting.Apart }
-        ensures entries { IfOk result (λ r. root_entries r ≡ map.merged (F.merged f.now) (entries a.now) (entries b.now)) }
+        ensures entries { IfOk result (λ r. root_entries r
+            ≡ map.merged (F.merged f.now) (entries a.now) (entries b.now)) }
         ensures tree { IfOk result (λ r. IsRoot r) }
     {
         let first = a.merge_first(alloc, f)?;
@@ -228,7 +233,8 @@ impl<V: Drop> Node<V> {
         requires first { IsTree a.now }
         requires second { IsTree b.now }
         requires same { Meets a.now b.now Meeting.OneKey }
-        ensures entries { IfOk result (λ r. root_entries r ≡ map.merged (F.merged f.now) (entries a.now) (entries b.now)) }
+        ensures entries { IfOk result (λ r. root_entries r
+            ≡ map.merged (F.merged f.now) (entries a.now) (entries b.now)) }
         ensures tree { IfOk result (λ r. IsRoot r) }
     {
         let key = a.label();
@@ -246,7 +252,8 @@ impl<V: Drop> Node<V> {
     ) -> Mem<Option<Rc<Node<V>>>>
         requires first { IsPart a }
         requires second { IsPart b }
-        ensures entries { IfOk result (λ r. root_entries r ≡ map.merged (F.merged f.now) (part_entries a.entry) (part_entries b.entry)) }
+        ensures entries { IfOk result (λ r. root_entries r
+            ≡ map.merged (F.merged f.now) (part_entries a.entry) (part_entries b.entry)) }
         ensures tree { IfOk result (λ r. IsRoot r) }
     {
         match (a, b) {

@@ -123,7 +123,8 @@ impl<V: Drop> Node<V> {
         requires fork { IsFork bit middle (entries left.value) (entries right.value) }
         requires left { IsTree left.value }
         requires right { IsTree right.value }
-        ensures entries { IfOk result (λ n. entries n.value ≡ entries left.value ++ entries right.value) }
+        ensures entries { IfOk result (λ n. entries n.value
+            ≡ entries left.value ++ entries right.value) }
         ensures tree { IfOk result (λ n. IsTree n.value) }
     {
         Ok(Rc::new(
@@ -148,7 +149,8 @@ impl<V: Drop> Node<V> {
         requires fork { IsFork bit middle (root_entries left) (root_entries right) }
         requires left { IsRoot left }
         requires right { IsRoot right }
-        ensures entries { IfOk result (λ r. root_entries r ≡ root_entries left ++ root_entries right) }
+        ensures entries { IfOk result (λ r. root_entries r
+            ≡ root_entries left ++ root_entries right) }
         ensures tree { IfOk result (λ r. IsRoot r) }
     {
         match (left, right) {
@@ -170,7 +172,8 @@ impl<V: Drop> Node<V> {
         requires apart { AreApart low high (entries left.value) (entries right.value) }
         requires left { IsTree left.value }
         requires right { IsTree right.value }
-        ensures entries { IfOk result (λ n. entries n.value ≡ entries left.value ++ entries right.value) }
+        ensures entries { IfOk result (λ n. entries n.value
+            ≡ entries left.value ++ entries right.value) }
         ensures tree { IfOk result (λ n. IsTree n.value) }
     {
         let bit = branch_bit(low, high);
