@@ -10,3 +10,8 @@ pub mod stepper;
 pub mod tree;
 pub mod value;
 pub mod work;
+
+pub use layout::{Layout, Object};
+pub use stepper::Stepper;
+pub use tree::Program;
+pub use work::{Outcome, State};

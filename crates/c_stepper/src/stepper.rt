@@ -45,6 +45,20 @@ fn evaluate_before(control: &mut Stack<Work>, e: &Rc<Expr>, then: Work) -> Resul
     control.push(Work::Evaluate(e.clone()?))
 }
 
+/// Puts the evaluation of two expressions, the first one first, and the work behind them first.
+fn evaluate_both(
+    control: &mut Stack<Work>,
+    a: &Rc<Expr>,
+    b: &Rc<Expr>,
+    then: Work,
+) -> Result<(), AllocError>
+    ensures { OnOk result (control_of control.new ≡ machine.Evaluate (expr_of a.now.value) ∷
+        machine.Evaluate (expr_of b.now.value) ∷ work_of then ∷ control_of control.old) }
+{
+    evaluate_before(control, b, then)?;
+    control.push(Work::Evaluate(a.clone()?))
+}
+
 fn choice(id: u32, left: &Rc<Stmt>, right: &Rc<Stmt>) -> Result<Work, AllocError>
     ensures { IfOk result (λ work. work_of work ≡ machine.Choose id (stmt_of left.now.value) (stmt_of
         right.now.value)) }
@@ -137,8 +151,7 @@ impl Stepper {
                 state.control.push(Work::Locate(*base))?;
             }
             Expr::Binary(op, kind, a, b) => {
-                evaluate_before(&mut state.control, b, Work::Apply(*op, *kind))?;
-                state.control.push(Work::Evaluate(a.clone()?))?;
+                evaluate_both(&mut state.control, a, b, Work::Apply(*op, *kind))?;
             }
             Expr::Assign(scalar, base, e) => {
                 evaluate_before(&mut state.control, e, Work::Store(*scalar))?;
