@@ -3,26 +3,23 @@ use Rattle.std.proofs.Common.{◌≡◌, ℕ, suc, ◌<◌, ◌≤◌, Bool, tru
 use Rattle.std.specs.Prelude.{nat_le, IfSome}
 use Rattle.std.proofs.lemmas.Bool.Decides.{nat_tests}
 use Rattle.std.proofs.lemmas.Option.{none-some}
-use Rattle.c_base.specs.declared.number.Span.{Span}
 use Rattle.c_base.specs.declared.token.Token.{Token}
 use Rattle.c_tree.specs.declared.tree.Specifier.{Specifier}
 use Rattle.c_tree.specs.Nesting.{nest, nest_all}
-use Rattle.c_tree.specs.Spelling.{pieces, pieces_of_all}
-use Rattle.c_tree.specs.Trees.{Tree, Trees, Nil, Next}
+use Rattle.c_tree.specs.Trees.{Tree}
 use Rattle.c_tree.specs.Views.{listed, specifier_tree, specifiers_of}
-use Rattle.c_tree.specs.WellFormed.{Names, Before, Untyped, Purpose, AreThere, after, after_all, first_place}
+use Rattle.c_tree.specs.WellFormed.{Names, Before, Purpose, after, after_all}
 use Rattle.c_parse_rules.proofs.PromisedTypes.{specifiers_parsed, specifiers_none, declarator_parsed, declarator_none}
 use Rattle.c_parse_expr.specs.Asking.{answer_tree, IsAsked}
-use Rattle.c_parse_rules.specs.Declaring.{AreSpecifiersFront, AreSpecifiersParsed, AreSpecifiersRead, EndSpecifiers, EndsDeclarator, IsDeclaratorFront, IsDeclaratorParsed, IsDeclaratorRead}
+use Rattle.c_parse_rules.specs.Declaring.{AreSpecifiersRead, IsDeclaratorRead}
 use Rattle.c_parse_expr.specs.Depths.{no_deeper}
 use Rattle.c_parse_base.specs.Heights.{capped}
 use Rattle.c_parse_base.specs.KnownNames.{Known, kept}
 use Rattle.c_parse_rules.specs.Measured.{declarator_within, specifiers_within}
-use Rattle.c_parse_rules.specs.Parsers.{declarator_at, expr_at, specifier_at, specifiers_at, typing_at}
+use Rattle.c_parse_rules.specs.Parsers.{declarator_at, specifier_at, specifiers_at}
 use Rattle.c_parse_base.specs.Purposes.{before_of, purpose_of}
 use Rattle.c_parse_base.specs.Reads.{AreAfter, closed}
 use Rattle.c_parse_rules.specs.Rules.{Found, Several}
-use Rattle.c_parse_rules.specs.TypeRules.{first_span}
 use Rattle.c_parse_expr.specs.declared.asking.Answer.{Answer}
 use Rattle.c_parse_expr.specs.declared.asking.Ask.TheVariants as ask
 use Rattle.c_parse_base.specs.declared.found.Found.{Found as CodeFound}

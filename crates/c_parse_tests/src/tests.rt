@@ -554,7 +554,7 @@ const NESTED: [Nested; 6] = [
         pairs: 200,
         inner: b'1',
         back: b"",
-        wanted: "1:201: syntax",
+        wanted: "1:200: syntax",
     },
     Nested {
         front: b"sizeof(int",
