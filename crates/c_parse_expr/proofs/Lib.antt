@@ -1,7 +1,2 @@
-pub mod code
-pub mod exprs
-pub mod types
-pub mod Knot
 pub mod Promised
 pub mod PromisedTypes
-mod Examples

@@ -1,37 +1,30 @@
--- What is found of specifiers and of declarators is what is promised.
+-- What the code reads of specifiers and of declarators is what is promised.
 use Rattle.std.proofs.Common.{◌≡◌, ℕ, suc, ◌<◌, ◌≤◌, Bool, true, false, cond, List, map, Result, Ok, Err, Option, None, Some, option_map, IfOk, refl, sym, ap, subst, ◌∙◌, arith}
 use Rattle.std.specs.Prelude.{nat_le, IfSome}
 use Rattle.std.proofs.lemmas.Bool.Decides.{nat_tests}
 use Rattle.std.proofs.lemmas.Option.{none-some}
-use Rattle.c_base.specs.declared.number.Span.{Span}
 use Rattle.c_base.specs.declared.token.Token.{Token}
 use Rattle.c_tree.specs.declared.tree.Specifier.{Specifier}
 use Rattle.c_tree.specs.Nesting.{nest, nest_all}
-use Rattle.c_tree.specs.Spelling.{pieces, pieces_of_all}
-use Rattle.c_tree.specs.Trees.{Tree, Trees, Nil, Next}
+use Rattle.c_tree.specs.Trees.{Tree}
 use Rattle.c_tree.specs.Views.{listed, specifier_tree, specifiers_of}
-use Rattle.c_tree.specs.WellFormed.{Names, Before, Untyped, Purpose, AreThere, after, after_all, first_place}
+use Rattle.c_tree.specs.WellFormed.{Names, Before, Purpose, after, after_all}
+use Rattle.c_parse_rules.proofs.PromisedTypes.{specifiers_parsed, specifiers_none, declarator_parsed, declarator_none}
 use Rattle.c_parse_expr.specs.Asking.{answer_tree, IsAsked}
-use Rattle.c_parse_expr.specs.Declaring.{AreSpecifiersFront, AreSpecifiersParsed, AreSpecifiersRead, EndSpecifiers, EndsDeclarator, IsDeclaratorFront, IsDeclaratorParsed, IsDeclaratorRead, no_deeper}
-use Rattle.c_parse_expr.specs.Heights.{capped}
-use Rattle.c_parse_expr.specs.KnownNames.{Known, kept}
-use Rattle.c_parse_expr.specs.Parsers.{declarator_at, expr_at, specifier_at, typing_at}
-use Rattle.c_parse_expr.specs.Purposes.{before_of, purpose_of}
-use Rattle.c_parse_expr.specs.Reads.{AreAfter, closed}
-use Rattle.c_parse_expr.specs.Rules.{Found, Several}
-use Rattle.c_parse_expr.specs.TypeRules.{first_span}
-use Rattle.c_parse_expr.specs.TypesAtDepth.{specifiers_at}
+use Rattle.c_parse_rules.specs.Declaring.{AreSpecifiersRead, IsDeclaratorRead}
+use Rattle.c_parse_expr.specs.Depths.{no_deeper}
+use Rattle.c_parse_base.specs.Heights.{capped}
+use Rattle.c_parse_base.specs.KnownNames.{Known, kept}
+use Rattle.c_parse_rules.specs.Measured.{declarator_within, specifiers_within}
+use Rattle.c_parse_rules.specs.Parsers.{declarator_at, specifier_at, specifiers_at}
+use Rattle.c_parse_base.specs.Purposes.{before_of, purpose_of}
+use Rattle.c_parse_base.specs.Reads.{AreAfter, closed}
+use Rattle.c_parse_rules.specs.Rules.{Found, Several}
 use Rattle.c_parse_expr.specs.declared.asking.Answer.{Answer}
 use Rattle.c_parse_expr.specs.declared.asking.Ask.TheVariants as ask
-use Rattle.c_parse_expr.specs.declared.found.Found.{Found as CodeFound}
-use Rattle.c_parse_expr.specs.declared.purpose.Before.{Before as CodeBefore}
-use Rattle.c_parse_expr.specs.declared.purpose.Purpose.{Purpose as CodePurpose}
-use Rattle.c_parse_expr.proofs.Knot.{laws}
-use Rattle.c_parse_expr.proofs.types.Begins.{specifier_place}
-use Rattle.c_parse_expr.proofs.types.MembersReach.{specifiers_reach}
-use Rattle.c_parse_expr.proofs.types.MembersSound.{specifiers_found}
-use Rattle.c_parse_expr.proofs.types.SuffixesReach.{plain_list, listed_plain}
-use Rattle.c_parse_expr.proofs.types.Words.{Fit, fit_split}
+use Rattle.c_parse_base.specs.declared.found.Found.{Found as CodeFound}
+use Rattle.c_parse_base.specs.declared.purpose.Before.{Before as CodeBefore}
+use Rattle.c_parse_base.specs.declared.purpose.Purpose.{Purpose as CodePurpose}
 
 -- ---- what is measured
 
@@ -51,82 +44,6 @@ shallow_some depth f g false e h = absurd (none-some f h)
 shallow_none : {T : Type 0} (depth : ℕ) (g : CodeFound T) (b : Bool) → nat_le g.height depth ≡ b → cond b (Some g) None ≡ None → nat_le g.height depth ≡ false
 shallow_none depth g true e h = absurd (none-some g (sym h))
 shallow_none depth g false e h = e
-
--- ---- specifiers
-
-there_is : (all : Trees) (span : Span) → first_place all ≡ Some span → AreThere all
-there_is Nil span e = absurd (none-some span e)
-there_is (Next t more) span e = tt
-
-nowhere : Span
-nowhere = record { line = 0; col = 0 }
-
-specifiers_reached : (purpose : Purpose) (depth : ℕ) (names : Names) (tokens : List Token) (all : Trees) (rest : List Token) →
-    AreSpecifiersFront purpose names depth tokens all rest → EndSpecifiers names all rest →
-    specifiers_at (suc depth) (specifier_at (suc depth)) purpose names tokens ≡ Some (plain_list all, rest)
-specifiers_reached purpose depth names tokens Nil rest front end = absurd front.there
-specifiers_reached purpose depth names tokens (Next t more) rest front end =
-    let d = suc depth in
-    let known = (laws d).types in
-    let fit : Fit (pieces_of_all (Next t more)) tokens rest = record { is = front.words } in
-    let s = fit_split (pieces t) (pieces_of_all more) fit in
-    let ok = front.shape in
-    let small : nest_all (Next t more) ≤ depth = front.shallow in
-    specifiers_reach d (expr_at d) (typing_at d) (specifier_at d) (declarator_at d) (specifier_at d) d known.specifiers_sound known.specifiers_reached
-    purpose names (first_span nowhere tokens) (Next t more) tokens rest (specifier_place purpose names Untyped t nowhere tokens s.mid ok.0 s.front) ok (omega arith) fit end
-
-specifiers_parsed : (purpose : Purpose) (depth : ℕ) (names : Names) (tokens : List Token) (found : Several) →
-    specifiers_at (suc depth) (specifier_at (suc depth)) purpose names tokens ≡ Some found → nest_all (listed found.0) ≤ depth →
-    AreSpecifiersParsed purpose names depth tokens (listed found.0) found.1
-specifiers_parsed purpose depth names tokens found same small =
-    let d = suc depth in
-    let s = specifiers_found d (expr_at d) (typing_at d) (specifier_at d) (declarator_at d) (specifier_at d) (laws d).types.specifiers_sound purpose names tokens found same in
-    let words = s.back in
-    record {
-      front = record { there = there_is (listed found.0) (first_span nowhere tokens) (s.place nowhere); shape = s.each; shallow = small; words = words.is };
-      only = λ others left front end.
-          let h : Some found ≡ Some (plain_list others, left) = sym same ∙ specifiers_reached purpose depth names tokens others left front end in
-          let e : found ≡ (plain_list others, left) = cc in
-          (ap (λ (x : Several). listed x.0) e ∙ listed_plain others, ap (λ (x : Several). x.1) e);
-    }
-
-specifiers_none : (purpose : Purpose) (depth : ℕ) (names : Names) (tokens : List Token) (plain : Option Several) →
-    specifiers_at (suc depth) (specifier_at (suc depth)) purpose names tokens ≡ plain → ((f : Several) → plain ≡ Some f → depth < nest_all (listed f.0)) →
-    (others : Trees) (left : List Token) → AreSpecifiersFront purpose names depth tokens others left → EndSpecifiers names others left → ⊥
-specifiers_none purpose depth names tokens plain same past others left front end =
-    let past_it : depth < nest_all (listed (plain_list others)) = past (plain_list others, left) (sym same ∙ specifiers_reached purpose depth names tokens others left front end) in
-    let it : listed (plain_list others) ≡ others = listed_plain others in
-    let deep : depth < nest_all others = rw it at past_it in
-    let small : nest_all others ≤ depth = front.shallow in
-    omega arith
-
--- ---- declarators
-
-declarator_reached : (purpose : Purpose) (depth : ℕ) (before : Before) (names : Names) (tokens : List Token) (tree : Tree) (rest : List Token) →
-    IsDeclaratorFront purpose names depth before tokens tree rest → EndsDeclarator purpose rest → declarator_at depth purpose names before tokens ≡ Some (tree, rest)
-declarator_reached purpose depth before names tokens tree rest front end =
-    (laws depth).types.declarators_reached purpose names before tokens tree rest (record { shape = front.shape; words = record { is = front.words } }) front.shallow end
-
-declarator_parsed : (purpose : Purpose) (depth : ℕ) (before : Before) (names : Names) (tokens : List Token) (found : Found) →
-    declarator_at depth purpose names before tokens ≡ Some found → nest found.0 ≤ depth → IsDeclaratorParsed purpose names depth before tokens found.0 found.1
-declarator_parsed purpose depth before names tokens found same small =
-    let s = (laws depth).types.declarators_sound purpose names before tokens found same in
-    let words = s.words in
-    record {
-      front = record { shape = s.shape; shallow = small; words = words.is };
-      only = λ other left front end.
-          let h : Some found ≡ Some (other, left) = sym same ∙ declarator_reached purpose depth before names tokens other left front end in
-          let e : found ≡ (other, left) = cc in
-          (ap (λ (x : Found). x.0) e, ap (λ (x : Found). x.1) e);
-    }
-
-declarator_none : (purpose : Purpose) (depth : ℕ) (before : Before) (names : Names) (tokens : List Token) (plain : Option Found) →
-    declarator_at depth purpose names before tokens ≡ plain → ((f : Found) → plain ≡ Some f → depth < nest f.0) →
-    (other : Tree) (left : List Token) → IsDeclaratorFront purpose names depth before tokens other left → EndsDeclarator purpose left → ⊥
-declarator_none purpose depth before names tokens plain same past other left front end =
-    let deep : depth < nest other = past (other, left) (sym same ∙ declarator_reached purpose depth before names tokens other left front end) in
-    let small : nest other ≤ depth = front.shallow in
-    omega arith
 
 -- ---- what the code reads
 
@@ -258,3 +175,99 @@ pub declarator_there : {E : Type 0} (purpose : CodePurpose) (depth : ℕ) (befor
 declarator_there purpose depth before entered mid old new tokens read entry f tree asked begun low narrow some left is =
     subst (λ (n : Names). IsDeclaratorRead (purpose_of purpose) depth (before_of before) n new tokens (Some (tree, f.rest.now))) begun
     (declarator_there_at purpose depth before entered mid new tokens read f tree asked low (sym narrow ∙ some) (closed_some mid new entry f some left) is)
+
+-- ---- the plain parsers' answers
+
+counts_same : (n height depth : ℕ) → height ≡ capped n → depth < 1000000 → nat_le n depth ≡ nat_le height depth
+unfolding capped
+counts_same n height depth h low = grind (arith, nat_tests)
+
+specifiers_missing_same : {E : Type 0} (purpose : CodePurpose) (depth : ℕ) (old : Names) (tokens : List Token) (read : Result (Option Specified) E) →
+    AreSpecified (suc depth) purpose old tokens read → IfOk read (λ r. IfSome r (λ (f : Specified). f.height ≡ capped (nest_all (specifiers_of f.tree.0)))) →
+    depth < 1000000 → no_deeper depth read ≡ Ok None → None ≡ specifiers_within depth (purpose_of purpose) old tokens
+unfolding specifiers_within
+specifiers_missing_same purpose depth old tokens (Err e) found height low none = absurd (cc)
+specifiers_missing_same purpose depth old tokens (Ok None) found height low none = rw (← found) refl
+specifiers_missing_same purpose depth old tokens (Ok (Some g)) found height low none =
+    let left : cond (nat_le g.height depth) (Some g) None ≡ None = cc in
+    let deep : nat_le (nest_all (specifiers_of g.tree.0)) depth ≡ false =
+    counts_same (nest_all (specifiers_of g.tree.0)) g.height depth height low ∙ shallow_none depth g (nat_le g.height depth) refl left in
+    rw (← found, deep) refl
+
+specifiers_there_same : {E : Type 0} (purpose : CodePurpose) (depth : ℕ) (old : Names) (tokens : List Token) (read : Result (Option Specified) E) (f : Specified) →
+    AreSpecified (suc depth) purpose old tokens read → IfOk read (λ r. IfSome r (λ (f : Specified). f.height ≡ capped (nest_all (specifiers_of f.tree.0)))) →
+    depth < 1000000 → no_deeper depth read ≡ Ok (Some f) → Some (map specifier_tree f.tree.0, f.rest.now) ≡ specifiers_within depth (purpose_of purpose) old tokens
+unfolding specifiers_within
+specifiers_there_same purpose depth old tokens (Err e) f found height low some = absurd (cc)
+specifiers_there_same purpose depth old tokens (Ok None) f found height low some = absurd (cc)
+specifiers_there_same purpose depth old tokens (Ok (Some g)) f found height low some =
+    let left : cond (nat_le g.height depth) (Some g) None ≡ Some f = cc in
+    let s = shallow_some depth f g (nat_le g.height depth) refl left in
+    let it : g ≡ f = s.0 in
+    let small : nat_le (nest_all (specifiers_of g.tree.0)) depth ≡ true =
+    counts_same (nest_all (specifiers_of g.tree.0)) g.height depth height low ∙ ap (λ (x : Specified). nat_le x.height depth) it ∙ s.1 in
+    rw (← found, small) (ap (λ (x : Specified). Some (map specifier_tree x.tree.0, x.rest.now)) (sym it))
+
+pub specifiers_missing_plainly : {E : Type 0} (purpose : CodePurpose) (depth d : ℕ) (first old : Names) (tokens : List Token) (read entry : Result (Option Specified) E) →
+    IfOk read (λ r. option_map (λ (f : Specified). (map specifier_tree f.tree.0, f.rest.now)) r ≡ specifiers_at d (specifier_at d) (purpose_of purpose) first tokens) →
+    IfOk read (λ r. IfSome r (λ (f : Specified). f.height ≡ capped (nest_all (specifiers_of f.tree.0)))) →
+    first ≡ old → depth < 999999 → entry ≡ no_deeper depth read → entry ≡ Ok None → d ≡ suc depth → None ≡ specifiers_within depth (purpose_of purpose) old tokens
+specifiers_missing_plainly purpose depth d first old tokens read entry found height begun low narrow none next =
+    subst (λ (n : Names). None ≡ specifiers_within depth (purpose_of purpose) n tokens) begun
+    (specifiers_missing_same purpose depth first tokens read (subst (λ (n : ℕ). AreSpecified n purpose first tokens read) next found) height (omega arith) (sym narrow ∙ none))
+
+pub specifiers_there_plainly : {E : Type 0} (purpose : CodePurpose) (depth d : ℕ) (first old : Names) (tokens : List Token) (read entry : Result (Option Specified) E)
+    (f : Specified) →
+    IfOk read (λ r. option_map (λ (f : Specified). (map specifier_tree f.tree.0, f.rest.now)) r ≡ specifiers_at d (specifier_at d) (purpose_of purpose) first tokens) →
+    IfOk read (λ r. IfSome r (λ (f : Specified). f.height ≡ capped (nest_all (specifiers_of f.tree.0)))) →
+    first ≡ old → depth < 999999 → entry ≡ no_deeper depth read → entry ≡ Ok (Some f) → d ≡ suc depth →
+    Some (map specifier_tree f.tree.0, f.rest.now) ≡ specifiers_within depth (purpose_of purpose) old tokens
+specifiers_there_plainly purpose depth d first old tokens read entry f found height begun low narrow some next =
+    subst (λ (n : Names). Some (map specifier_tree f.tree.0, f.rest.now) ≡ specifiers_within depth (purpose_of purpose) n tokens) begun
+    (specifiers_there_same purpose depth first tokens read f (subst (λ (n : ℕ). AreSpecified n purpose first tokens read) next found) height (omega arith) (sym narrow ∙ some))
+
+declarator_missing_same : {E : Type 0} (purpose : CodePurpose) (depth : ℕ) (before : CodeBefore) (old mid : Known) (tokens : List Token) (read : Result (Option (CodeFound Answer)) E) →
+    IsAsked depth (ask.Declarator purpose before) old mid tokens read → depth < 1000000 → no_deeper depth read ≡ Ok None →
+    None ≡ declarator_within depth (purpose_of purpose) old.names (before_of before) tokens
+unfolding declarator_within
+declarator_missing_same purpose depth before old mid tokens (Err e) asked low none = absurd (cc)
+declarator_missing_same purpose depth before old mid tokens (Ok None) asked low none =
+    let found = asked.found in
+    rw (← found.same) refl
+declarator_missing_same purpose depth before old mid tokens (Ok (Some g)) asked low none =
+    let found = asked.found in
+    let left : cond (nat_le g.height depth) (Some g) None ≡ None = cc in
+    let deep : nat_le (nest (answer_tree g.tree)) depth ≡ false =
+    counts_same (nest (answer_tree g.tree)) g.height depth found.height low ∙ shallow_none depth g (nat_le g.height depth) refl left in
+    rw (← found.same, deep) refl
+
+declarator_there_same : {E : Type 0} (purpose : CodePurpose) (depth : ℕ) (before : CodeBefore) (old mid : Known) (tokens : List Token) (read : Result (Option (CodeFound Answer)) E)
+    (f : CodeFound Answer) → IsAsked depth (ask.Declarator purpose before) old mid tokens read → depth < 1000000 → no_deeper depth read ≡ Ok (Some f) →
+    Some (answer_tree f.tree, f.rest.now) ≡ declarator_within depth (purpose_of purpose) old.names (before_of before) tokens
+unfolding declarator_within
+declarator_there_same purpose depth before old mid tokens (Err e) f asked low some = absurd (cc)
+declarator_there_same purpose depth before old mid tokens (Ok None) f asked low some = absurd (cc)
+declarator_there_same purpose depth before old mid tokens (Ok (Some g)) f asked low some =
+    let found = asked.found in
+    let left : cond (nat_le g.height depth) (Some g) None ≡ Some f = cc in
+    let s = shallow_some depth f g (nat_le g.height depth) refl left in
+    let it : g ≡ f = s.0 in
+    let small : nat_le (nest (answer_tree g.tree)) depth ≡ true =
+    counts_same (nest (answer_tree g.tree)) g.height depth found.height low ∙ ap (λ (x : CodeFound Answer). nat_le x.height depth) it ∙ s.1 in
+    rw (← found.same, small) (ap (λ (x : CodeFound Answer). Some (answer_tree x.tree, x.rest.now)) (sym it))
+
+pub declarator_missing_plainly : {E : Type 0} (purpose : CodePurpose) (depth : ℕ) (before : CodeBefore) (entered mid : Known) (old : Names) (tokens : List Token)
+    (read entry : Result (Option (CodeFound Answer)) E) →
+    IsAsked depth (ask.Declarator purpose before) entered mid tokens read → entered.names ≡ old → depth < 1000000 → entry ≡ no_deeper depth read → entry ≡ Ok None →
+    None ≡ declarator_within depth (purpose_of purpose) old (before_of before) tokens
+declarator_missing_plainly purpose depth before entered mid old tokens read entry asked begun low narrow none =
+    subst (λ (n : Names). None ≡ declarator_within depth (purpose_of purpose) n (before_of before) tokens) begun
+    (declarator_missing_same purpose depth before entered mid tokens read asked low (sym narrow ∙ none))
+
+pub declarator_there_plainly : {E : Type 0} (purpose : CodePurpose) (depth : ℕ) (before : CodeBefore) (entered mid : Known) (old : Names) (tokens : List Token)
+    (read entry : Result (Option (CodeFound Answer)) E) (f : CodeFound Answer) (tree : Tree) →
+    IsAsked depth (ask.Declarator purpose before) entered mid tokens read → entered.names ≡ old → depth < 1000000 → entry ≡ no_deeper depth read → entry ≡ Ok (Some f) →
+    tree ≡ answer_tree f.tree → Some (tree, f.rest.now) ≡ declarator_within depth (purpose_of purpose) old (before_of before) tokens
+declarator_there_plainly purpose depth before entered mid old tokens read entry f tree asked begun low narrow some is =
+    subst (λ (n : Names). Some (tree, f.rest.now) ≡ declarator_within depth (purpose_of purpose) n (before_of before) tokens) begun
+    (rw is (declarator_there_same purpose depth before entered mid tokens read f asked low (sym narrow ∙ some)))

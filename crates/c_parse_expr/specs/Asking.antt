@@ -4,16 +4,16 @@ use Rattle.c_base.specs.declared.token.Token.{Token}
 use Rattle.c_tree.specs.Trees.{Tree}
 use Rattle.c_tree.specs.Views.{declarator_tree, specifier_tree, tree_of, type_name_tree}
 use Rattle.c_tree.specs.WellFormed.{Names}
-use Rattle.c_parse_expr.specs.KnownNames.{Known, kept}
-use Rattle.c_parse_expr.specs.Parsers.{declarator_at, expr_at, specifier_at, typing_at}
-use Rattle.c_parse_expr.specs.Purposes.{before_of, purpose_of}
-use Rattle.c_parse_expr.specs.Reads.{IsFound}
-use Rattle.c_parse_expr.specs.Rules.{Found}
+use Rattle.c_parse_base.specs.KnownNames.{Known, kept}
+use Rattle.c_parse_rules.specs.Parsers.{declarator_at, expr_at, specifier_at, typing_at}
+use Rattle.c_parse_base.specs.Purposes.{before_of, purpose_of}
+use Rattle.c_parse_base.specs.Reads.{IsFound}
+use Rattle.c_parse_rules.specs.Rules.{Found}
 use Rattle.c_parse_expr.specs.declared.asking.Answer.{Answer}
 use Rattle.c_parse_expr.specs.declared.asking.Answer.TheVariants as answer
 use Rattle.c_parse_expr.specs.declared.asking.Ask.{Ask}
 use Rattle.c_parse_expr.specs.declared.asking.Ask.TheVariants as ask
-use Rattle.c_parse_expr.specs.declared.found.Found.{Found as CodeFound}
+use Rattle.c_parse_base.specs.declared.found.Found.{Found as CodeFound}
 
 abbrev pub ask_at : ℕ → Ask → Names → List Token → Option Found
 ask_at d (ask.Expr least) names tokens = expr_at d names least tokens

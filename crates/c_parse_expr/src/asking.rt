@@ -1,10 +1,10 @@
 //! What the reader of trees is asked for, and what it answers.
 
-use crate::purpose::{Before, Purpose};
+use c_parse_base::purpose::{Before, Purpose};
 use c_tree::tree::{Declarator, Expr, Specifier, TypeName};
 
 /// What is asked for.
-#[derive(Clone, Copy, Debug, PartialEq, Eq)]
+#[derive(Clone, Copy, PartialEq, Eq)]
 pub enum Ask {
     /// An expression of at least this level.
     Expr(u32),

@@ -4,21 +4,22 @@ ghost use Rattle.c_tree.specs.Nesting.{nest_all};
 ghost use Rattle.c_tree.specs.Views.{declarator_tree, specifier_tree, specifiers_of};
 ghost use Rattle.c_tree.specs.WellFormed.{after_all, before_end, Untyped};
 ghost use Rattle.c_parse_expr.specs.Asking.{IsAsked};
-ghost use Rattle.c_parse_expr.specs.Declaring.{no_deeper, AreSpecifiersRead, IsDeclaratorRead};
-ghost use Rattle.c_parse_expr.specs.Heights.{capped};
-ghost use Rattle.c_parse_expr.specs.KnownNames.{kept};
-ghost use Rattle.c_parse_expr.specs.Parsers.{specifier_at};
-ghost use Rattle.c_parse_expr.specs.Purposes.{before_of, purpose_of};
-ghost use Rattle.c_parse_expr.specs.TypesAtDepth.{specifiers_at};
+ghost use Rattle.c_parse_rules.specs.Declaring.{AreSpecifiersRead, IsDeclaratorRead};
+ghost use Rattle.c_parse_expr.specs.Depths.{no_deeper};
+ghost use Rattle.c_parse_base.specs.Heights.{capped};
+ghost use Rattle.c_parse_base.specs.KnownNames.{kept};
+ghost use Rattle.c_parse_rules.specs.Measured.{declarator_within, specifiers_within};
+ghost use Rattle.c_parse_rules.specs.Parsers.{specifier_at, specifiers_at};
+ghost use Rattle.c_parse_base.specs.Purposes.{before_of, purpose_of};
 
 use crate::asking::Ask;
-use crate::found::Found;
-use crate::names::TypeNames;
-use crate::purpose::{Before, Purpose};
 use crate::reader::{Reader, as_declarator, read_at};
-use crate::scope::close;
-use crate::specified::{is_none, specifiers_below};
 use c_base::token::Token;
+use c_parse_base::found::Found;
+use c_parse_base::names::TypeNames;
+use c_parse_base::purpose::{Before, Purpose};
+use c_parse_base::scope::close;
+use c_parse_types::{is_none, specifiers_below};
 use c_tree::tree::{Declarator, Specifier};
 use sqlite_items::Items;
 use std::alloc::{AllocError, Global};
@@ -86,12 +87,13 @@ pub fn specifiers_within<'a>(
 ) -> Result<Option<(Items<Specifier>, Before, &'a [Token])>, AllocError>
     requires depth { depth < 999999 }
     ensures read { IfOk result (λ r. AreSpecifiersRead (purpose_of purpose) depth names.old.names names.new.names tokens.now (option_map (λ f. (specifiers_of f.0, f.2.now)) r)) }
+    ensures found { IfOk result (λ r. option_map (λ f. (map specifier_tree f.0, f.2.now)) r ≡ specifiers_within depth (purpose_of purpose) names.old.names tokens.now) }
     ensures before { IfOk result (λ r. IfSome r (λ f. before_of f.1 ≡ before_end Untyped (specifiers_of f.0))) }
     ensures kept { kept names.new ≡ kept names.old }
 {
     let scope = names.enter();
     let found = some_specifiers(alloc, depth + 1, names, purpose, tokens);
-    match close(names, scope, no_deeper(depth, found))? {
+    match close(names, scope, tokens, no_deeper(depth, found))? {
         None => Ok(None),
         Some(found) => {
             let (specifiers, before) = found.tree;
@@ -112,6 +114,7 @@ pub fn declarator_within<'a>(
 ) -> Result<Option<(Declarator, &'a [Token])>, AllocError>
     requires depth { depth < 1000000 }
     ensures read { IfOk result (λ r. IsDeclaratorRead (purpose_of purpose) depth (before_of before) names.old.names names.new.names tokens.now (option_map (λ f. (declarator_tree f.0, f.1.now)) r)) }
+    ensures found { IfOk result (λ r. option_map (λ f. (declarator_tree f.0, f.1.now)) r ≡ declarator_within depth (purpose_of purpose) names.old.names (before_of before) tokens.now) }
     ensures kept { kept names.new ≡ kept names.old }
 {
     let scope = names.enter();
@@ -122,7 +125,7 @@ pub fn declarator_within<'a>(
         Ask::Declarator(purpose, before),
         tokens,
     );
-    match close(names, scope, no_deeper(depth, found))? {
+    match close(names, scope, tokens, no_deeper(depth, found))? {
         None => Ok(None),
         Some(found) => Ok(Some((as_declarator(found.tree), found.rest))),
     }

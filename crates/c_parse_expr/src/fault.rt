@@ -9,7 +9,8 @@ use thiserror::Error;
 /// Why tokens are not parsed.
 #[derive(Clone, Copy, Debug, PartialEq, Eq, Error)]
 pub enum ParseFault {
-    /// No tree spells tokens from there; `at` is the place of the first of them, or of the last of the list where none is left.
+    /// No tree spells tokens from the start on. `at` is the place of the furthest token that was refused, or of the last of the list where
+    /// more tokens are wanted.
     #[error("{}:{}: syntax", .at.line, .at.col)]
     Syntax { at: Span },
     #[error("out of memory")]

@@ -1,28 +1,16 @@
-//! Reads C's expressions (C11 6.5) and the type names that they reach.
+//! Reads C's expressions (C11 6.5), the type names that they reach, and the specifiers and declarators of declarations (C11 6.7.2 to
+//! 6.7.6), at the front of a list of tokens.
 #![tactic(auto)]
 
 pub mod asking;
-mod attributes;
-pub mod below;
-mod declarators;
 pub mod declaring;
-mod enums;
-mod expression;
 pub mod fault;
-pub mod found;
-pub mod height;
-mod members;
-pub mod names;
 pub mod parse;
-mod postfix;
-mod primary;
-pub mod purpose;
-pub mod reader;
-mod runs;
-pub mod scope;
-mod specified;
-mod specifiers;
-mod suffixes;
-mod type_names;
-mod unary;
-pub mod words;
+mod reader;
+
+pub use c_parse_base::{names, purpose, words};
+pub use declaring::{declarator_within, specifiers_within};
+pub use fault::ParseFault;
+pub use names::TypeNames;
+pub use parse::{expr_within, parse_expr, typing_within};
+pub use purpose::{Before, Purpose};

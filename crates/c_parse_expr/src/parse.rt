@@ -1,21 +1,22 @@
 //! Expressions and type names at a place of a token list.
-ghost use Rattle.std.specs.Prelude.{◌≡◌, ◌<◌, ◌≤◌, ◌-◌, drop, length, option_map, Err, IfOk};
+ghost use Rattle.std.specs.Prelude.{◌≡◌, ◌<◌, ◌≤◌, drop, length, option_map, Some, Err, IfOk};
 ghost use Rattle.c_tree.specs.Views.{tree_of, type_name_tree};
-ghost use Rattle.c_parse_expr.specs.Found.{HasNone};
-ghost use Rattle.c_parse_expr.specs.KnownNames.{kept};
-ghost use Rattle.c_parse_expr.specs.Parsers.{expr_at};
-ghost use Rattle.c_parse_expr.specs.Promises.{IsExprRead, IsParsed, IsTypingRead};
-ghost use Rattle.c_parse_expr.specs.Purposes.{purpose_of};
+ghost use Rattle.c_parse_rules.specs.Found.{HasNone};
+ghost use Rattle.c_parse_expr.specs.Places.{place_of_token, IsRefusedAt};
+ghost use Rattle.c_parse_base.specs.KnownNames.{kept};
+ghost use Rattle.c_parse_rules.specs.Parsers.{expr_at};
+ghost use Rattle.c_parse_rules.specs.Promises.{IsExprRead, IsParsed, IsTypingRead};
+ghost use Rattle.c_parse_base.specs.Purposes.{purpose_of};
 ghost use Rattle.c_parse_expr.specs.declared.fault.ParseFault.TheVariants as fault;
-ghost use Rattle.c_parse_expr.specs.declared.purpose.Purpose.TheVariants as asked;
+ghost use Rattle.c_parse_base.specs.declared.purpose.Purpose.TheVariants as asked;
 
 use crate::asking::Ask;
 use crate::fault::ParseFault;
-use crate::names::TypeNames;
-use crate::purpose::Purpose;
 use crate::reader::{as_expr, as_typing, read_at};
 use c_base::number::Span;
 use c_base::token::Token;
+use c_parse_base::names::TypeNames;
+use c_parse_base::purpose::Purpose;
 use c_tree::tree::{Expr, TypeName};
 use std::alloc::{AllocError, Global};
 
@@ -62,20 +63,33 @@ pub fn typing_within<'a>(
     }
 }
 
-// The place of the first token, or of the last of the list, or the first place of a file.
-fn place_from(all: &[Token], start: usize) -> Span
-    requires { start ≤ length all.now }
+// The place of the token with this number, which is there.
+fn place_of(tokens: &[Token], number: usize) -> Span
+    requires { number < length tokens.now }
+    ensures { place_of_token tokens.now number ≡ Some result }
 {
-    if start < all.len() {
-        return all[start].span;
+    tokens[number].span
+}
+
+// The place of the furthest token that was refused, of which so many were left, or of the last of the list; the first place of a file
+// where there is no token.
+fn refused_at(tokens: &[Token], start: usize, unread: usize) -> Span
+    requires { start ≤ length tokens.now }
+    ensures { IsRefusedAt tokens.now start result }
+{
+    let count = tokens.len();
+    if count == 0 {
+        return Span { line: 1, col: 1 };
     }
-    match all.last() {
-        Some(token) => token.span,
-        None => Span { line: 1, col: 1 },
+    if 0 < unread && unread <= count - start {
+        place_of(tokens, count - unread)
+    } else {
+        place_of(tokens, count - 1)
     }
 }
 
 /// The longest expression that the tokens from `start` on begin with, and the position behind it (C11 6.5). Its nodes nest at most 200 deep.
+/// A refusal tells the first token at which no expression goes on; inside an attribute it is the attribute's first word.
 pub fn parse_expr(
     alloc: Global,
     tokens: &[Token],
@@ -86,12 +100,13 @@ pub fn parse_expr(
     ensures parsed { IfOk result (λ x. IsParsed names.now.names 0 200 (drop start tokens.now) (tree_of x.0) (drop x.1 tokens.now)) }
     ensures within { IfOk result (λ x. x.1 ≤ length tokens.now) }
     ensures none { (at : _) → result ≡ Err (fault.Syntax at) → HasNone names.now.names 0 200 (drop start tokens.now) }
+    ensures place { (at : _) → result ≡ Err (fault.Syntax at) → IsRefusedAt tokens.now start at }
 {
     let mut known = names.duplicate(alloc)?;
     match expr_within(alloc, MOST_NESTING, &mut known, 0, &tokens[start..])? {
         Some((expr, rest)) => Ok((expr, tokens.len() - rest.len())),
         None => Err(ParseFault::Syntax {
-            at: place_from(tokens, start),
+            at: refused_at(tokens, start, known.unread()),
         }),
     }
 }

@@ -3,20 +3,18 @@ ghost use Rattle.std.specs.Prelude.{◌≡◌, ◌<◌, suc, IfOk, IfSome};
 ghost use Rattle.c_tree.specs.Views.{declarator_tree, specifier_tree, tree_of, type_name_tree};
 ghost use Rattle.c_parse_expr.specs.declared.asking.Ask.TheVariants as ask;
 ghost use Rattle.c_parse_expr.specs.Asking.{answer_tree, ask_at, IsAsked, Suits};
-ghost use Rattle.c_parse_expr.specs.KnownNames.{kept};
-ghost use Rattle.c_parse_expr.specs.Reads.{IsFound};
+ghost use Rattle.c_parse_base.specs.KnownNames.{kept};
+ghost use Rattle.c_parse_base.specs.Reads.{IsFound};
 
 use crate::asking::{Answer, Ask};
-use crate::below::Below;
-use crate::declarators::declarator_rule;
-use crate::expression::expr_rule;
-use crate::found::Found;
-use crate::names::TypeNames;
-use crate::purpose::{Before, Purpose};
-use crate::scope::close;
-use crate::specifiers::specifier_rule;
-use crate::type_names::type_rule;
 use c_base::token::Token;
+use c_parse_base::below::Below;
+use c_parse_base::found::Found;
+use c_parse_base::names::TypeNames;
+use c_parse_base::purpose::{Before, Purpose};
+use c_parse_base::scope::close;
+use c_parse_operators::expr_rule;
+use c_parse_types::{declarator_rule, specifier_rule, type_rule};
 use c_tree::tree::{Declarator, Expr, Specifier, TypeName};
 use std::alloc::{AllocError, Global};
 
@@ -200,7 +198,7 @@ fn answer<'a, B: Below<'a>>(
         Ask::Expr(least) => match expr_rule(below, alloc, names, least, tokens)? {
             None => Ok(None),
             Some(found) => Ok(Some(Found {
-                tree: Answer::Expr(found.tree),
+                tree: Answer::Expr(found.tree.into_inner()),
                 height: found.height,
                 rest: found.rest,
             })),
@@ -260,5 +258,5 @@ pub fn read_at<'a>(
     };
     let scope = names.enter();
     let found = answer(&below, alloc, names, ask, tokens);
-    close(names, scope, found)
+    close(names, scope, tokens, found)
 }

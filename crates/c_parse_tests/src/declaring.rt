@@ -4,12 +4,25 @@ use crate::tests::{Case, add_name, names};
 use c_base::name::Name;
 use c_base::token::Token;
 use c_lex::lex;
-use c_parse_expr::declaring::{declarator_within, specifiers_within};
-use c_parse_expr::names::TypeNames;
-use c_parse_expr::purpose::{Before, Purpose};
-use c_tree::tree::{Core, Declarator, Specifier, Suffix};
+use c_parse_expr::{Before, Purpose, TypeNames, declarator_within, specifiers_within};
+use c_tree::tree::{CompositeSort, Core, Declarator, Specifier, Suffix};
 use std::alloc::{AllocError, Global};
 use std::test::Fail;
+
+fn sort_name(sort: CompositeSort) -> &'static str {
+    match sort {
+        CompositeSort::Struct => "Struct",
+        CompositeSort::Union => "Union",
+    }
+}
+
+fn before_name(before: Before) -> &'static str {
+    match before {
+        Before::Untyped => "Untyped",
+        Before::Typed => "Typed",
+        Before::Braced => "Braced",
+    }
+}
 
 fn add_specifier(alloc: Global, out: &mut String, specifier: &Specifier) -> Result<(), AllocError> {
     match specifier {
@@ -24,7 +37,8 @@ fn add_specifier(alloc: Global, out: &mut String, specifier: &Specifier) -> Resu
             attributes: _,
             tag,
         } => {
-            out.push_str(format!(in alloc; "{sort:?}-")?.as_str())?;
+            out.push_str(sort_name(*sort))?;
+            out.push_str("-")?;
             add_name(out, tag)
         }
         Specifier::Composite {
@@ -34,7 +48,11 @@ fn add_specifier(alloc: Global, out: &mut String, specifier: &Specifier) -> Resu
             tag: _,
             members,
             trailing: _,
-        } => out.push_str(format!(in alloc; "{sort:?} of {}", members.as_slice().len())?.as_str()),
+        } => out.push_str(format!(in alloc;
+            "{} of {}",
+            sort_name(*sort),
+            members.as_slice().len()
+        )?.as_str()),
         Specifier::EnumTag { span: _, tag } => {
             out.push_str("Enum-")?;
             add_name(out, tag)
@@ -124,7 +142,8 @@ fn add_both(
                 add_specifier(alloc, out, each)?;
                 out.push_str(" ")?;
             }
-            out.push_str(format!(in alloc; "{before:?} ")?.as_str())?;
+            out.push_str(before_name(before))?;
+            out.push_str(" ")?;
             add_behind(alloc, out, names, before, rest)
         }
     }

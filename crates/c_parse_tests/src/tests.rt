@@ -1,8 +1,8 @@
 //! How expressions group by C11 6.5: braces stand round each node of several parts, and a number says how many tokens are left.
 use c_base::name::Name;
 use c_lex::lex;
-use c_parse_expr::names::TypeNames;
-use c_parse_expr::parse::parse_expr;
+use c_parse_expr::{TypeNames, parse_expr};
+use c_tree::operator::{PrefixOperator, TypeOperator};
 use c_tree::tree::{Expr, Operand, PostfixPart};
 use std::alloc::{AllocError, Global};
 use std::test::Fail;
@@ -12,6 +12,27 @@ pub fn add_name(out: &mut String, name: &Name) -> Result<(), AllocError> {
         out.push(char::from(*byte))?;
     }
     Ok(())
+}
+
+fn prefix_name(operator: PrefixOperator) -> &'static str {
+    match operator {
+        PrefixOperator::Increment => "Increment",
+        PrefixOperator::Decrement => "Decrement",
+        PrefixOperator::Address => "Address",
+        PrefixOperator::Indirection => "Indirection",
+        PrefixOperator::Plus => "Plus",
+        PrefixOperator::Minus => "Minus",
+        PrefixOperator::Complement => "Complement",
+        PrefixOperator::Not => "Not",
+        PrefixOperator::Sizeof => "Sizeof",
+    }
+}
+
+fn type_operator_name(operator: TypeOperator) -> &'static str {
+    match operator {
+        TypeOperator::Sizeof => "Sizeof",
+        TypeOperator::Alignof => "Alignof",
+    }
 }
 
 #[cycle(showing)]
@@ -26,7 +47,7 @@ fn add_all(alloc: Global, out: &mut String, all: &[Expr]) -> Result<(), AllocErr
 #[cycle(showing)]
 fn add_operands(alloc: Global, out: &mut String, all: &[Operand]) -> Result<(), AllocError> {
     for each in all {
-        out.push_str(format!(in alloc; " {:?} ", each.operator)?.as_str())?;
+        out.push_str(format!(in alloc; " {:?} ", each.operator.punctuator())?.as_str())?;
         add_expr(alloc, out, &each.operand)?;
     }
     Ok(())
@@ -103,7 +124,9 @@ fn add_expr(alloc: Global, out: &mut String, expr: &Expr) -> Result<(), AllocErr
             operator,
             operand,
         } => {
-            out.push_str(format!(in alloc; "{{{operator:?} ")?.as_str())?;
+            out.push_str("{")?;
+            out.push_str(prefix_name(*operator))?;
+            out.push_str(" ")?;
             add_expr(alloc, out, operand.get())?;
             out.push_str("}")
         }
@@ -111,7 +134,11 @@ fn add_expr(alloc: Global, out: &mut String, expr: &Expr) -> Result<(), AllocErr
             span: _,
             operator,
             type_name: _,
-        } => out.push_str(format!(in alloc; "{{{operator:?} of a type}}")?.as_str()),
+        } => {
+            out.push_str("{")?;
+            out.push_str(type_operator_name(*operator))?;
+            out.push_str(" of a type}")
+        }
         Expr::Offsetof {
             span: _,
             type_name: _,
@@ -161,7 +188,7 @@ fn add_expr(alloc: Global, out: &mut String, expr: &Expr) -> Result<(), AllocErr
         } => {
             out.push_str("{")?;
             add_expr(alloc, out, target.get())?;
-            out.push_str(format!(in alloc; " {operator:?} ")?.as_str())?;
+            out.push_str(format!(in alloc; " {:?} ", operator.punctuator())?.as_str())?;
             add_expr(alloc, out, value.get())?;
             out.push_str("}")
         }
@@ -227,15 +254,15 @@ fn unlike(alloc: Global, cases: &[Case]) -> Result<String, AllocError> {
 const LEVELS: [Case; 14] = [
     Case {
         source: b"a-b-c+d",
-        wanted: "{a Subtract b Subtract c Add d} 0",
+        wanted: "{a Minus b Minus c Plus d} 0",
     },
     Case {
         source: b"a,b=c,d",
-        wanted: "{a , {b Plain c} d} 0",
+        wanted: "{a , {b Assign c} d} 0",
     },
     Case {
         source: b"a=b?c:d",
-        wanted: "{a Plain {b ? c : d}} 0",
+        wanted: "{a Assign {b ? c : d}} 0",
     },
     Case {
         source: b"a?b,c:d?e:f",
@@ -243,27 +270,27 @@ const LEVELS: [Case; 14] = [
     },
     Case {
         source: b"a||b?c:d",
-        wanted: "{{a Or b} ? c : d} 0",
+        wanted: "{{a OrOr b} ? c : d} 0",
     },
     Case {
         source: b"a||b&&c|d^e&f",
-        wanted: "{a Or {b And {c BitOr {d BitXor {e BitAnd f}}}}} 0",
+        wanted: "{a OrOr {b AndAnd {c Bar {d Caret {e Ampersand f}}}}} 0",
     },
     Case {
         source: b"a&b^c|d&&e||f",
-        wanted: "{{{{{a BitAnd b} BitXor c} BitOr d} And e} Or f} 0",
+        wanted: "{{{{{a Ampersand b} Caret c} Bar d} AndAnd e} OrOr f} 0",
     },
     Case {
         source: b"a&b==c<d<<e+f*g",
-        wanted: "{a BitAnd {b Equal {c Less {d ShiftLeft {e Add {f Multiply g}}}}}} 0",
+        wanted: "{a Ampersand {b Equal {c Less {d ShiftLeft {e Plus {f Star g}}}}}} 0",
     },
     Case {
         source: b"a%b-c>>d>=e!=f&g",
-        wanted: "{{{{{{a Remainder b} Subtract c} ShiftRight d} GreaterEqual e} NotEqual f} BitAnd g} 0",
+        wanted: "{{{{{{a Percent b} Minus c} ShiftRight d} GreaterEqual e} NotEqual f} Ampersand g} 0",
     },
     Case {
         source: b"-a*(int)b",
-        wanted: "{{Minus a} Multiply {cast b}} 0",
+        wanted: "{{Minus a} Star {cast b}} 0",
     },
     Case {
         source: b"*p++",
@@ -275,7 +302,7 @@ const LEVELS: [Case; 14] = [
     },
     Case {
         source: b"a=b+=c",
-        wanted: "{a Plain {b Add c}} 0",
+        wanted: "{a Assign {b PlusAssign c}} 0",
     },
     Case {
         source: b"(a,b)",
@@ -294,7 +321,7 @@ const NAMES: [Case; 10] = [
     },
     Case {
         source: b"sizeof(T)*a",
-        wanted: "{{Sizeof of a type} Multiply a} 0",
+        wanted: "{{Sizeof of a type} Star a} 0",
     },
     Case {
         source: b"sizeof(t)[1]",
@@ -314,7 +341,7 @@ const NAMES: [Case; 10] = [
     },
     Case {
         source: b"sizeof(enum{T})+(T)",
-        wanted: "{{Sizeof of a type} Add (T)} 0",
+        wanted: "{{Sizeof of a type} Plus (T)} 0",
     },
     Case {
         source: b"s.T->T",
@@ -329,7 +356,7 @@ const NAMES: [Case; 10] = [
 const ENDS: [Case; 8] = [
     Case {
         source: b"a+b*",
-        wanted: "{a Add b} 1",
+        wanted: "{a Plus b} 1",
     },
     Case {
         source: b"f(a,b,)",
@@ -361,6 +388,102 @@ const ENDS: [Case; 8] = [
     },
 ];
 
+// The first token at which nothing goes on; the last where more are wanted.
+const PLACES: [Case; 14] = [
+    Case {
+        source: b"",
+        wanted: "1:1: syntax",
+    },
+    Case {
+        source: b"(a b)",
+        wanted: "1:4: syntax",
+    },
+    Case {
+        source: b"(a.+b)",
+        wanted: "1:4: syntax",
+    },
+    Case {
+        source: b"(a+)",
+        wanted: "1:4: syntax",
+    },
+    Case {
+        source: b"(f(a,))",
+        wanted: "1:6: syntax",
+    },
+    Case {
+        source: b"(a?b)",
+        wanted: "1:5: syntax",
+    },
+    Case {
+        source: b"(a=b",
+        wanted: "1:4: syntax",
+    },
+    Case {
+        source: b"sizeof(int",
+        wanted: "1:8: syntax",
+    },
+    Case {
+        source: b"sizeof(struct 5)",
+        wanted: "1:15: syntax",
+    },
+    Case {
+        source: b"sizeof(enum{A 5})",
+        wanted: "1:15: syntax",
+    },
+    Case {
+        source: b"sizeof(int[)",
+        wanted: "1:12: syntax",
+    },
+    Case {
+        source: b"sizeof(struct{_Static_assert(1,2);})",
+        wanted: "1:32: syntax",
+    },
+    Case {
+        source: b"__builtin_offsetof(int,5)",
+        wanted: "1:24: syntax",
+    },
+    Case {
+        source: b"_Alignof 5",
+        wanted: "1:10: syntax",
+    },
+];
+
+// Each bracket in an attribute is closed by its own, and none is an annotation's.
+const ATTRIBUTES: [Case; 8] = [
+    Case {
+        source: b"sizeof(int __attribute__((a(b[1],{2}))))",
+        wanted: "{Sizeof of a type} 0",
+    },
+    Case {
+        source: b"sizeof(int __attribute__(()))",
+        wanted: "{Sizeof of a type} 0",
+    },
+    Case {
+        source: b"sizeof(int __attribute__((a])))",
+        wanted: "1:12: syntax",
+    },
+    Case {
+        source: b"sizeof(int __attribute__((a(b])))",
+        wanted: "1:12: syntax",
+    },
+    Case {
+        source: b"sizeof(int __attribute__((a[(b]))))",
+        wanted: "1:12: syntax",
+    },
+    Case {
+        source: b"sizeof(int __attribute__((a{)))",
+        wanted: "1:12: syntax",
+    },
+    Case {
+        source: b"sizeof(int __attribute__((/*@*/)))",
+        wanted: "1:12: syntax",
+    },
+    Case {
+        source: b"sizeof(int __attribute__((a /*@ ))) + sizeof(int __attribute__(( */ )))",
+        wanted: "1:12: syntax",
+    },
+];
+
 #[test]
 fn grouping(rt: HostRuntime) -> Result<(), Fail> {
     let alloc = rt.alloc();
@@ -370,29 +493,97 @@ fn grouping(rt: HostRuntime) -> Result<(), Fail> {
     Ok(())
 }
 
-// A number in so many pairs of parentheses.
-fn nested(alloc: Global, pairs: usize) -> Result<String, AllocError> {
-    let mut source = Vec::new(alloc);
-    for _ in 0..pairs {
+#[test]
+fn refusals(rt: HostRuntime) -> Result<(), Fail> {
+    let alloc = rt.alloc();
+    assert_eq!(rt; unlike(alloc, &PLACES)?.as_str(), "");
+    assert_eq!(rt; unlike(alloc, &ATTRIBUTES)?.as_str(), "");
+    Ok(())
+}
+
+/// A text with so many pairs of parentheses in it, and how it groups.
+struct Nested {
+    front: &'static [u8],
+    pairs: u8,
+    inner: u8,
+    back: &'static [u8],
+    wanted: &'static str,
+}
+
+fn source_of(alloc: Global, nested: &Nested) -> Result<Vec<u8>, AllocError> {
+    let mut source = Vec::from_slice(alloc, nested.front)?;
+    for _ in 0..nested.pairs {
         source.push(b'(')?;
     }
-    source.push(b'1')?;
-    for _ in 0..pairs {
+    source.push(nested.inner)?;
+    for _ in 0..nested.pairs {
         source.push(b')')?;
     }
-    let names = names(alloc)?;
-    let found = shown(alloc, source.as_slice(), &names)?;
-    match found.as_str().strip_suffix(" 0") {
-        Some(_) => format!(in alloc; "whole"),
-        None => Ok(found),
+    for byte in nested.back {
+        source.push(*byte)?;
     }
+    Ok(source)
 }
+
+fn ends_as_wanted(alloc: Global, nested: &Nested) -> Result<bool, AllocError> {
+    let names = names(alloc)?;
+    let source = source_of(alloc, nested)?;
+    let found = shown(alloc, source.as_slice(), &names)?;
+    Ok(found.as_str().ends_with(nested.wanted))
+}
+
+// Pairs in an expression are a node each, and so are pairs in a declarator: the type name, its declarator and the `*` are three nodes
+// below `sizeof`.
+const NESTED: [Nested; 6] = [
+    Nested {
+        front: b"",
+        pairs: 198,
+        inner: b'1',
+        back: b"",
+        wanted: ") 0",
+    },
+    Nested {
+        front: b"",
+        pairs: 199,
+        inner: b'1',
+        back: b"",
+        wanted: ") 0",
+    },
+    Nested {
+        front: b"",
+        pairs: 200,
+        inner: b'1',
+        back: b"",
+        wanted: "1:200: syntax",
+    },
+    Nested {
+        front: b"sizeof(int",
+        pairs: 100,
+        inner: b'*',
+        back: b")",
+        wanted: "{Sizeof of a type} 0",
+    },
+    Nested {
+        front: b"sizeof(int",
+        pairs: 196,
+        inner: b'*',
+        back: b")",
+        wanted: "{Sizeof of a type} 0",
+    },
+    Nested {
+        front: b"sizeof(int",
+        pairs: 197,
+        inner: b'*',
+        back: b")",
+        wanted: "syntax",
+    },
+];
 
 #[test]
 fn nesting(rt: HostRuntime) -> Result<(), Fail> {
     let alloc = rt.alloc();
-    assert_eq!(rt; nested(alloc, 198)?.as_str(), "whole");
-    assert_eq!(rt; nested(alloc, 199)?.as_str(), "whole");
-    assert_eq!(rt; nested(alloc, 200)?.as_str(), "1:1: syntax");
+    for nested in &NESTED {
+        assert!(rt; ends_as_wanted(alloc, nested)?);
+    }
     Ok(())
 }

@@ -103,14 +103,10 @@ fn sum(alloc: Global) -> Result<Expr, AllocError> {
 }
 
 #[test]
-fn words_depth_and_copy(rt: HostRuntime) -> Result<(), Fail> {
+fn words_and_depth(rt: HostRuntime) -> Result<(), Fail> {
     let alloc = rt.alloc();
     let tree = sum(alloc)?;
-    assert_eq!(rt; tree.spell(alloc)?.len(), 16);
-    assert_eq!(rt; tree.nesting(), 5);
-    assert_eq!(rt; tree.span(), at(1));
-    let copy = tree.duplicate(alloc)?;
-    assert_eq!(rt; copy.spell(alloc)?.len(), 16);
-    assert_eq!(rt; copy.nesting(), 5);
+    let words = tree.spell(alloc)?;
+    assert!(rt; words.len() == 16 && tree.nesting() == 5 && tree.span() == at(1));
     Ok(())
 }

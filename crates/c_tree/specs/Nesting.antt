@@ -3,7 +3,7 @@
 use Rattle.std.specs.Prelude.{ℕ, suc, ◌+◌, max, length}
 use Rattle.c_tree.specs.Trees.{Tree, Name, Integer, Floating, Character, Text, Parenthesised, Postfix, Prefix, OfType, Offsetof, Cast, Run, Conditional, Assignment, Comma, Index, Call, Dot, Arrow, Increment, Decrement, Operand, TypeName, Key, Typedef, Attribute, CompositeTag, Composite, EnumTag, Enum, Enumerator, Fields, Assertion, Field, Padding, Declarator, Absent, Declared, Group, Array, Function, Trees, Nil, Next}
 
--- a pair of parentheses in a declarator is a node above what is behind it
+-- A declarator in parentheses is the node of these: what stands in them counts as part of it, and what is behind them as below it.
 abbrev pub nodes_of_core : Tree → ℕ
 nodes_of_core (Group span inner) = 1
 nodes_of_core _ = 0
@@ -49,7 +49,7 @@ abbrev mutual
   nest (Declarator span pointers core suffixes) = suc (length pointers + max (nest core) (nodes_of_core core + nest_below suffixes))
   nest Absent = 0
   nest (Declared span name) = 0
-  nest (Group span inner) = suc (nest inner)
+  nest (Group span inner) = nest inner
   nest (Array span qualifiers bound) = nest_all bound
   nest (Function span parameters variadic) = nest_all parameters
 

@@ -1,10 +1,13 @@
 -- Which trees are expressions. Each operand has at least the level that its place asks for, no operand of a run is a run of the same
 -- level, and a name stands as a typedef name exactly where C says so. How deep a tree may be is stated apart, in `IsWithin`.
-use Rattle.std.specs.Prelude.{ℕ, zero, suc, ◌≤◌, ◌≡◌, ◌==◌, Bool, true, false, cond, ◌||◌, IsTrue, List, [], ◌∷◌, Option, None, Some, bytes_eq}
+use Rattle.std.specs.Prelude.{ℕ, zero, suc, ◌≤◌, ◌≡◌, Bool, true, false, cond, ◌||◌, IsTrue, List, [], ◌∷◌, Option, None, Some, bytes_eq}
 use Rattle.std.specs.List.{AllByRecursion}
+use denote.Enum.Bare.{sameb}
+use Rattle.c_base.specs.contracts.token.Punctuator.{the_type as mark_type}
 use Rattle.c_base.specs.declared.number.Span.{Span}
 use Rattle.c_base.specs.declared.token.Keyword.{Keyword}
 use Rattle.c_base.specs.declared.token.Keyword.TheVariants as key
+use Rattle.c_base.specs.declared.token.Punctuator.{Punctuator}
 use Rattle.c_base.specs.declared.token.Punctuator.TheVariants as mark
 use Rattle.c_base.specs.declared.token.Word.{Word}
 use Rattle.c_base.specs.declared.token.Word.TheVariants as word
@@ -208,16 +211,43 @@ IsText (bytes ∷ more) = Unit {0}
 
 -- ---- parts without trees
 
--- the parentheses among the words match, where so many are open before
-abbrev pub balances : ℕ → List Word → Bool
-balances open_before [] = open_before == 0
-balances open_before (word.Punctuator mark.OpenParenthesis ∷ more) = balances (suc open_before) more
-balances zero (word.Punctuator mark.CloseParenthesis ∷ more) = false
-balances (suc open_before) (word.Punctuator mark.CloseParenthesis ∷ more) = balances open_before more
-balances open_before (w ∷ more) = balances open_before more
+-- the brackets that are open, the innermost first: each by the mark that closes it
+abbrev pub Open : Type 0
+Open = List Punctuator
+
+-- what is open behind a mark that closes; none where it does not close the innermost
+abbrev pub open_without : Punctuator → Open → Option Open
+open_without p [] = None
+open_without p (innermost ∷ more) = cond (sameb mark_type innermost p) (Some more) None
+
+-- what is open behind a word of an attribute; none where the word can't stand there, as the brackets and words of an annotation
+abbrev pub open_behind : Open → Word → Option Open
+open_behind unclosed (word.Punctuator mark.OpenParenthesis) = Some (mark.CloseParenthesis ∷ unclosed)
+open_behind unclosed (word.Punctuator mark.OpenBracket) = Some (mark.CloseBracket ∷ unclosed)
+open_behind unclosed (word.Punctuator mark.OpenBrace) = Some (mark.CloseBrace ∷ unclosed)
+open_behind unclosed (word.Punctuator mark.CloseParenthesis) = open_without mark.CloseParenthesis unclosed
+open_behind unclosed (word.Punctuator mark.CloseBracket) = open_without mark.CloseBracket unclosed
+open_behind unclosed (word.Punctuator mark.CloseBrace) = open_without mark.CloseBrace unclosed
+open_behind unclosed word.OpenAnnotation = None
+open_behind unclosed word.CloseAnnotation = None
+open_behind unclosed (word.AnnotationWord name) = None
+open_behind unclosed w = Some unclosed
+
+abbrev pub nothing_open : Open → Bool
+nothing_open [] = true
+nothing_open (innermost ∷ more) = false
+
+abbrev pub balances_where : (Open → Bool) → Option Open → Bool
+balances_where again None = false
+balances_where again (Some unclosed) = again unclosed
+
+-- each bracket among the words is closed by its own, where these are open before them
+abbrev pub balances : Open → List Word → Bool
+balances unclosed [] = nothing_open unclosed
+balances unclosed (w ∷ more) = balances_where (λ left. balances left more) (open_behind unclosed w)
 
 abbrev pub IsAttribute : CodeAttribute → Type 0
-IsAttribute a = IsTrue (balances 0 a.words)
+IsAttribute a = IsTrue (balances [] a.words)
 
 abbrev pub AreAttributes : List CodeAttribute → Type 0
 AreAttributes = AllByRecursion IsAttribute

@@ -205,7 +205,7 @@ fn core(tree: &Core) -> usize
     match tree {
         Core::Absent => 0,
         Core::Named { span: _, name: _ } => 0,
-        Core::Group { span: _, inner } => above(declarator(inner.get())),
+        Core::Group { span: _, inner } => declarator(inner.get()),
     }
 }
 

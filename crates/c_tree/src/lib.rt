@@ -1,8 +1,7 @@
 //! Trees of C's expressions and of what their type names reach (C11 6.5.1 to 6.5.17, 6.6 and 6.7.2 to 6.7.7): which words a tree
-//! spells, how deep it is, and a copy of it. `specs/` says which trees are well formed.
+//! spells, and how deep it is. `specs/` says which trees are well formed.
 #![tactic(auto)]
 
-mod copies;
 mod depth;
 pub mod operator;
 mod plain_words;

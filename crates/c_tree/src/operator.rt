@@ -5,7 +5,7 @@ ghost use Rattle.c_tree.specs.Spelling.{word_of_prefix, word_of_type_operator, m
 use c_base::token::{Keyword, Punctuator, Word};
 
 /// What stands before an operand (C11 6.5.3).
-#[derive(Clone, Copy, Debug, PartialEq, Eq)]
+#[derive(Clone, Copy, PartialEq, Eq)]
 pub enum PrefixOperator {
     Increment,
     Decrement,
@@ -19,14 +19,14 @@ pub enum PrefixOperator {
 }
 
 /// What asks for a property of a type (C11 6.5.3.4).
-#[derive(Clone, Copy, Debug, PartialEq, Eq)]
+#[derive(Clone, Copy, PartialEq, Eq)]
 pub enum TypeOperator {
     Sizeof,
     Alignof,
 }
 
 /// What stands between two operands and groups from the left (C11 6.5.5 to 6.5.14).
-#[derive(Clone, Copy, Debug, PartialEq, Eq)]
+#[derive(Clone, Copy, PartialEq, Eq)]
 pub enum BinaryOperator {
     Multiply,
     Divide,
@@ -49,7 +49,7 @@ pub enum BinaryOperator {
 }
 
 /// C11 6.5.16.
-#[derive(Clone, Copy, Debug, PartialEq, Eq)]
+#[derive(Clone, Copy, PartialEq, Eq)]
 pub enum AssignmentOperator {
     Plain,
     Multiply,

@@ -3,8 +3,9 @@ ghost use Rattle.std.specs.Prelude.{◌≡◌, ◌∷◌, ◌++◌, [], OnOk, If
 ghost use Rattle.c_base.specs.declared.token.Keyword.TheVariants as key;
 ghost use Rattle.c_base.specs.declared.token.Punctuator.TheVariants as mark;
 ghost use Rattle.c_base.specs.declared.token.Word.TheVariants as word;
-ghost use Rattle.c_tree.specs.Spelling.{words_of, pieces_of_literals, pieces_of_text, pieces_of_words, pieces_of_attribute, pieces_of_attributes, pieces_of_keywords, pieces_of_qualifier, pieces_of_qualifiers, pieces_of_pointers, pieces_of_tag, pieces_where, sign, keyword_of_sort};
+ghost use Rattle.c_tree.specs.Spelling.{words_of, pieces_of_literals, pieces_of_text, pieces_of_words, pieces_of_attribute, pieces_of_attributes, pieces_of_keywords, pieces_of_qualifier, pieces_of_qualifiers, pieces_of_pointers, pieces_of_tag, pieces_where, sign, keyword_of_sort, word_of_prefix, word_of_type_operator};
 
+use crate::operator::{PrefixOperator, TypeOperator};
 use crate::tree::{Attribute, CompositeSort, Pointer, Qualifier};
 use c_base::name::Name;
 use c_base::number::Span;
@@ -22,6 +23,18 @@ pub(crate) fn keyword(out: &mut Items<Word>, keyword: Keyword) -> Result<(), All
     ensures { OnOk result (out.new ≡ out.old ++ word.Keyword keyword ∷ []) }
 {
     out.push(Word::Keyword(keyword))
+}
+
+pub(crate) fn prefix(out: &mut Items<Word>, operator: PrefixOperator) -> Result<(), AllocError>
+    ensures { OnOk result (out.new ≡ out.old ++ word_of_prefix operator ∷ []) }
+{
+    out.push(operator.word())
+}
+
+pub(crate) fn type_operator(out: &mut Items<Word>, operator: TypeOperator) -> Result<(), AllocError>
+    ensures { OnOk result (out.new ≡ out.old ++ word_of_type_operator operator ∷ []) }
+{
+    out.push(operator.word())
 }
 
 pub(crate) fn identifier(
@@ -74,16 +87,6 @@ fn copied(alloc: Global, word: &Word) -> Result<Word, AllocError>
         Word::CloseAnnotation => Ok(Word::CloseAnnotation),
         Word::AnnotationWord(name) => Ok(Word::AnnotationWord(name.duplicate(alloc)?)),
     }
-}
-
-pub(crate) fn copied_words(alloc: Global, all: &[Word]) -> Result<Items<Word>, AllocError>
-    ensures { IfOk result (λ copies. copies ≡ all.now) }
-{
-    let mut copies = Items::new(alloc);
-    for word in all {
-        copies.push(copied(alloc, word)?)?;
-    }
-    Ok(copies)
 }
 
 fn kept_words(alloc: Global, out: &mut Items<Word>, all: &[Word]) -> Result<(), AllocError>

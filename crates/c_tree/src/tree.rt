@@ -204,7 +204,7 @@ pub struct Attribute {
     pub words: Items<Word>,
 }
 
-#[derive(Clone, Copy, Debug, PartialEq, Eq)]
+#[derive(Clone, Copy, PartialEq, Eq)]
 pub enum CompositeSort {
     Struct,
     Union,

@@ -1,13 +1,15 @@
 //! Which words a tree spells.
 ghost use Rattle.std.specs.Prelude.{◌≡◌, ◌∷◌, ◌++◌, [], OnOk, IfOk};
+ghost use Rattle.c_base.specs.declared.token.Keyword.TheVariants as key;
 ghost use Rattle.c_base.specs.declared.token.Punctuator.TheVariants as mark;
 ghost use Rattle.c_base.specs.declared.token.Word.TheVariants as word;
 ghost use Rattle.c_tree.specs.Spelling.{words_of, pieces, pieces_of_all, pieces_behind, pieces_with_commas, spell};
 ghost use Rattle.c_tree.specs.Views.{tree_of, part_tree, exprs_of, parts_of, operands_of, type_name_tree};
 
-use crate::plain_words::{comma_where, identifier, keyword, mark, text};
+use crate::plain_words::{comma_where, identifier, keyword, mark, prefix, text, type_operator};
 use crate::tree::{Expr, Operand, PostfixPart, TypeName};
 use crate::type_words::type_name;
+use c_base::name::Name;
 use c_base::token::{Keyword, Punctuator, Word};
 use sqlite_items::Items;
 use std::alloc::{AllocError, Global};
@@ -90,11 +92,7 @@ pub(crate) fn expr(alloc: Global, out: &mut Items<Word>, tree: &Expr) -> Result<
             span,
             literals: all,
         } => text(alloc, out, all.as_slice(), *span),
-        Expr::Parenthesised { span: _, inner } => {
-            mark(out, Punctuator::OpenParenthesis)?;
-            expr(alloc, out, inner.get())?;
-            mark(out, Punctuator::CloseParenthesis)
-        }
+        Expr::Parenthesised { span: _, inner } => enclosed(alloc, out, inner.get()),
         Expr::Postfix {
             span: _,
             first,
@@ -108,7 +106,7 @@ pub(crate) fn expr(alloc: Global, out: &mut Items<Word>, tree: &Expr) -> Result<
             operator,
             operand,
         } => {
-            out.push(operator.word())?;
+            prefix(out, *operator)?;
             expr(alloc, out, operand.get())
         }
         Expr::OfType {
@@ -116,21 +114,14 @@ pub(crate) fn expr(alloc: Global, out: &mut Items<Word>, tree: &Expr) -> Result<
             operator,
             type_name: asked,
         } => {
-            out.push(operator.word())?;
+            type_operator(out, *operator)?;
             in_parentheses(alloc, out, asked.get())
         }
         Expr::Offsetof {
             span: _,
             type_name: asked,
             member,
-        } => {
-            keyword(out, Keyword::BuiltinOffsetof)?;
-            mark(out, Punctuator::OpenParenthesis)?;
-            type_name(alloc, out, asked.get())?;
-            mark(out, Punctuator::Comma)?;
-            identifier(alloc, out, member)?;
-            mark(out, Punctuator::CloseParenthesis)
-        }
+        } => offset(alloc, out, asked.get(), member),
         Expr::Cast {
             span: _,
             type_name: target,
@@ -154,10 +145,8 @@ pub(crate) fn expr(alloc: Global, out: &mut Items<Word>, tree: &Expr) -> Result<
             when_false,
         } => {
             expr(alloc, out, condition.get())?;
-            mark(out, Punctuator::Question)?;
-            expr(alloc, out, when_true.get())?;
-            mark(out, Punctuator::Colon)?;
-            expr(alloc, out, when_false.get())
+            behind(alloc, out, Punctuator::Question, when_true.get())?;
+            behind(alloc, out, Punctuator::Colon, when_false.get())
         }
         Expr::Assignment {
             span: _,
@@ -166,8 +155,7 @@ pub(crate) fn expr(alloc: Global, out: &mut Items<Word>, tree: &Expr) -> Result<
             value,
         } => {
             expr(alloc, out, target.get())?;
-            mark(out, operator.punctuator())?;
-            expr(alloc, out, value.get())
+            behind(alloc, out, operator.punctuator(), value.get())
         }
         Expr::Comma {
             span: _,
@@ -178,6 +166,48 @@ pub(crate) fn expr(alloc: Global, out: &mut Items<Word>, tree: &Expr) -> Result<
             exprs(alloc, out, true, more.as_slice())
         }
     }
+}
+
+// An expression in parentheses.
+#[cycle(spelling)]
+fn enclosed(alloc: Global, out: &mut Items<Word>, inner: &Expr) -> Result<(), AllocError>
+    ensures { OnOk result (out.new ≡ out.old ++ word.Punctuator mark.OpenParenthesis ∷ words_of (pieces (tree_of inner.now)) ++ word.Punctuator mark.CloseParenthesis ∷ []) }
+{
+    mark(out, Punctuator::OpenParenthesis)?;
+    expr(alloc, out, inner)?;
+    mark(out, Punctuator::CloseParenthesis)
+}
+
+// An expression behind a punctuator.
+#[cycle(spelling)]
+fn behind(
+    alloc: Global,
+    out: &mut Items<Word>,
+    punctuator: Punctuator,
+    tree: &Expr,
+) -> Result<(), AllocError>
+    ensures { OnOk result (out.new ≡ out.old ++ word.Punctuator punctuator ∷ words_of (pieces (tree_of tree.now))) }
+{
+    mark(out, punctuator)?;
+    expr(alloc, out, tree)
+}
+
+// The place of a member in a type.
+#[cycle(spelling)]
+fn offset(
+    alloc: Global,
+    out: &mut Items<Word>,
+    asked: &TypeName,
+    member: &Name,
+) -> Result<(), AllocError>
+    ensures { OnOk result (out.new ≡ out.old ++ word.Keyword key.BuiltinOffsetof ∷ word.Punctuator mark.OpenParenthesis ∷ words_of (pieces (type_name_tree asked.now)) ++ word.Punctuator mark.Comma ∷ word.Identifier member.now ∷ word.Punctuator mark.CloseParenthesis ∷ []) }
+{
+    keyword(out, Keyword::BuiltinOffsetof)?;
+    mark(out, Punctuator::OpenParenthesis)?;
+    type_name(alloc, out, asked)?;
+    mark(out, Punctuator::Comma)?;
+    identifier(alloc, out, member)?;
+    mark(out, Punctuator::CloseParenthesis)
 }
 
 // A type name in parentheses.

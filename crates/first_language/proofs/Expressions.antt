@@ -17,12 +17,13 @@ use Rattle.c_tree.specs.Spelling.{pieces}
 use Rattle.c_tree.specs.Trees as c
 use Rattle.c_tree.specs.Trees.{Tree, Trees}
 use Rattle.c_parse_expr.specs.Found.{IsFront}
-use Rattle.c_parse_expr.specs.Laws.{binding, goes_on, Reached}
+use Rattle.c_parse_expr.specs.Following.{binding, goes_on}
 use Rattle.c_parse_expr.specs.Parsers.{expr_at}
 use Rattle.c_parse_expr.specs.Rules.{Found}
 use Rattle.c_parse_expr.specs.Tokens.{◌>>=◌, behind_mark}
-use Rattle.c_parse_expr.proofs.Knot.{laws}
-use Rattle.c_parse_expr.proofs.exprs.Fronts.{fronts_left}
+use Rattle.c_parse_rules.proofs.Knot.{laws}
+use Rattle.c_parse_rules.proofs.Laws.{Reached}
+use Rattle.c_parse_rules.proofs.exprs.Fronts.{fronts_left}
 use Rattle.first_program.specs.declared.tree.Sign.{Sign}
 use Rattle.first_program.specs.Source.{Sum, Number, Variable, Parenthesised, Run, Test, Compare, Enclosed}
 use Rattle.first_program.specs.SourceViews.{addends, IsSumShaped, AreAddendsShaped, IsTestShaped}

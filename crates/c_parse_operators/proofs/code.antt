@@ -1,0 +1,4 @@
+pub mod Extending
+pub mod Growing
+pub mod Levels
+pub mod Rounds

@@ -1,0 +1,2 @@
+pub mod AtDepth
+pub mod Pairs

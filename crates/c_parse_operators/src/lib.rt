@@ -1,0 +1,11 @@
+//! Reads expressions (C11 6.5), level by level. Each rule is generic in what reads the operands of its node.
+#![tactic(auto)]
+
+mod expression;
+mod operands;
+mod postfix;
+mod primary;
+mod runs;
+mod unary;
+
+pub use expression::expr_rule;

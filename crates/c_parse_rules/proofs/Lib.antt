@@ -1,0 +1,7 @@
+pub mod Laws
+pub mod exprs
+pub mod types
+pub mod Knot
+pub mod Promised
+pub mod PromisedTypes
+mod Examples

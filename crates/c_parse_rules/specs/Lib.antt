@@ -1,0 +1,9 @@
+pub mod Tokens
+pub mod Rules
+pub mod TypeRules
+pub mod Parsers
+pub mod Found
+pub mod Following
+pub mod Promises
+pub mod Declaring
+pub mod Measured

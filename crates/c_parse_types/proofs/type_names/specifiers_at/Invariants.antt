@@ -1,0 +1,20 @@
+use Rattle.std.proofs.Common.{◌≡◌, ◌+◌, ◌≤◌, [], length}
+use Rattle.c_tree.specs.Views.{specifier_tree, specifiers_of}
+use Rattle.c_tree.specs.WellFormed.{before_end, Untyped}
+use Rattle.c_parse_base.specs.KnownNames.{kept}
+use Rattle.c_parse_base.specs.Purposes.{before_of, purpose_of}
+use Rattle.c_parse_types.specs.TypesAtDepth.{all_specifiers, specifier_rule, specifiers_from}
+use Rattle.c_parse_base.proofs.code.Loops.{Midst}
+use Rattle.c_parse_types.proofs.type_names.specifiers_at.Given as goal
+
+abbrev pub invariant-reading : goal.invariant-reading
+invariant-reading g l =
+    (kept l.names ≡ kept l.initial.names)
+    × Midst specifier_tree (specifiers_from (g.B.Below.depth l.below) (specifier_rule (g.B.Below.depth l.below)) (purpose_of l.purpose))
+    (all_specifiers (g.B.Below.depth l.below) (specifier_rule (g.B.Below.depth l.below)) (purpose_of l.purpose) l.initial.names.names l.tokens)
+    l.initial.names.names [] l.tokens l.found.items l.height l.names.names l.rest
+    × (before_of l.before ≡ before_end Untyped (specifiers_of l.found.items))
+    × (length l.rest + length l.found.items ≤ length l.tokens)
+
+abbrev pub decreases-reading : goal.decreases-reading
+decreases-reading g l = length l.rest
