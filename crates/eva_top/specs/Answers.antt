@@ -11,6 +11,7 @@ use Rattle.c_lex.specs.declared.fault.LexFault.{LexFault}
 use Rattle.c_lex.specs.declared.fault.LexFault.TheVariants.{BadByte as BadByteFault, OpenComment as OpenCommentFault, OpenString as OpenStringFault, BadNumber as BadNumberFault}
 use Rattle.c_lex.specs.Lexing.{AreAnswered, IsRefusedFor, AreTooMany}
 use Rattle.first_language.specs.Language.{Spells}
+use Rattle.first_language.specs.Place.{IsPlaceIn}
 use Rattle.c_base.specs.declared.token.LexSort.{LexSort}
 use Rattle.c_base.specs.declared.token.LexSort.TheVariants.{BadByte, OpenComment, OpenString, BadNumber}
 use Rattle.eva_top.specs.declared.status.Refusal.TheVariants.{Form, Lex, Limit}
@@ -59,13 +60,15 @@ pub record IsSource (bytes : List ℕ) (p : Program) : Type 0 where
   pub cut : AreAnswered bytes tokens
   pub spells : Spells tokens p
 
--- the file is read and cut into tokens, at most 2,000,000, that spell no program
-pub record IsForm (c : Call) : Type 0 where
+-- the file is read and cut into tokens, at most 2,000,000, that spell no program; the place is that of one of them, and 1:1 where there are
+-- none
+pub record IsForm (c : Call) (at : Span) : Type 0 where
   pub bytes : List ℕ
   pub tokens : List Token
   pub read : IsRead c bytes
   pub cut : AreAnswered bytes tokens
   pub none : (p : Program) → Spells tokens p → ⊥
+  pub place : IsPlaceIn tokens at
 
 abbrev pub fault_of : LexSort → Span → LexFault
 fault_of BadByte at = BadByteFault at
@@ -129,7 +132,7 @@ IsNote c Clean text = ⊥
 IsNote c Alarmed text = ⊥
 IsNote c Usage text = (length c.words ≢ 1) × (text ≡ usage_note)
 IsNote c Unread text = (name : List ℕ) × IsUnread c name × (text ≡ named_text (codes "unread: ") name)
-IsNote c (Refused (Form at)) text = IsForm c × (text ≡ form_text at)
+IsNote c (Refused (Form at)) text = IsForm c at × (text ≡ form_text at)
 IsNote c (Refused (Lex sort at)) text = IsLex c sort at × (text ≡ lex_text sort at)
 IsNote c (Refused (Limit limit found)) text = IsBeyond c limit found × (text ≡ limit_text limit found)
 IsNote c Unwritten text = ⊥

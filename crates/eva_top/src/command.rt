@@ -1,6 +1,8 @@
 ghost use Rattle.std.specs.Prelude.{◌≡◌, ◌≤◌, ◌++◌, ◌∷◌, [], ℕ, List, length, map, string_bytes, ◌≢◌, IfOk, OnOk};
 ghost use Rattle.first_program.specs.Meaning.{meaning_of};
 ghost use Rattle.first_program.specs.SourceViews.{program_of, IsShaped};
+ghost use Rattle.first_program.specs.Source.{Program};
+ghost use Rattle.first_language.specs.Language.{Spells};
 ghost use Rattle.c_lex.specs.Lexing.{AreAnswered, IsRefusal};
 ghost use Rattle.eva_report.specs.Report.{line_end};
 ghost use Rattle.eva_claim.specs.Claims.{IsReportOf};
@@ -170,6 +172,24 @@ fn refuse_bytes<N: Sink>(alloc: Global, fault: LexFault, notes: &mut N) -> Statu
     }
 }
 
+// The answer for tokens that spell no program.
+fn refuse_tokens<N: Sink>(alloc: Global, tokens: &[Token], notes: &mut N) -> Status
+    requires { length tokens.now ≤ 2000000 }
+    ensures { (c : _) (bytes : List ℕ) → IsRead c bytes → AreAnswered bytes tokens.now
+        → ((p : Program) → Spells tokens.now p → ⊥)
+        → c.out.after.written ≡ c.out.before.written
+        → c.notes ≡ sunk (N.state notes.old) (N.state notes.new)
+        → Answers c result }
+{
+    match first_language::refused_at(alloc, tokens) {
+        Err(AllocError) => note_memory(notes),
+        Ok(at) => {
+            let text = make_form_text(alloc, at);
+            note(notes, Status::Refused(Refusal::Form { at }), text)
+        }
+    }
+}
+
 // The report of a program.
 fn make_report(alloc: Global, program: &Program) -> Result<Printed, AllocError>
     requires { IsShaped (program_of program.now) }
@@ -195,11 +215,7 @@ fn analyse_tokens<K: Sink, N: Sink>(
 {
     match first_language::parse(alloc, tokens) {
         Err(AllocError) => note_memory(notes),
-        Ok(None) => {
-            let at = Span { line: 1, col: 1 };
-            let text = make_form_text(alloc, at);
-            note(notes, Status::Refused(Refusal::Form { at }), text)
-        }
+        Ok(None) => refuse_tokens(alloc, tokens, notes),
         Ok(Some(program)) => match make_report(alloc, &program) {
             Err(AllocError) => note_memory(notes),
             Ok(printed) => put_text(out, printed.text.as_slice(), report_status(printed.alarmed)),

@@ -3,3 +3,4 @@ pub mod Sums
 pub mod Language
 pub mod Reading
 pub mod Views
+pub mod Place

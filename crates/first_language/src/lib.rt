@@ -6,16 +6,17 @@ ghost use Rattle.std.specs.Prelude.{◌≤◌, length, option_map, IfOk, IfSome}
 ghost use Rattle.first_program.specs.SourceViews.{program_of, IsShaped};
 ghost use Rattle.first_language.specs.Exactness.{Exactly};
 ghost use Rattle.first_language.specs.Language.{Spells};
+ghost use Rattle.first_language.specs.Place.{IsPlaceIn};
 
+use c_base::number::Span;
 use c_base::token::Token;
 use first_program::tree::Program;
 use std::alloc::{AllocError, Global};
 
 mod parser;
+mod place;
 mod statements;
 mod sums;
-#[cfg(test)]
-mod tests;
 mod values;
 mod words;
 
@@ -34,4 +35,14 @@ pub fn parse(alloc: Global, tokens: &[Token]) -> Result<Option<Program>, AllocEr
     ensures shaped { IfOk result (λ found. IfSome found (λ p. IsShaped (program_of p))) }
 {
     parser::program_at(alloc, tokens)
+}
+
+/// Where tokens that spell no program stop being the front of one, for a note: the place of one of them, and 1:1 where there are none.
+///
+/// It is that of the first token with which no program goes on; in a statement that is none, it is where that begins.
+pub fn refused_at(alloc: Global, tokens: &[Token]) -> Result<Span, AllocError>
+    requires { length tokens.now ≤ 2000000 }
+    ensures { IfOk result (IsPlaceIn tokens.now) }
+{
+    place::refused_at(alloc, tokens)
 }

@@ -23,7 +23,7 @@ pub const MOST_NESTING: u8 = 198;
 
 // The tokens behind the name `main`.
 #[tactic(auto, unfolding(crate::specs::Reading::behind_main))]
-fn behind_main(tokens: &[Token]) -> Option<&[Token]>
+pub(crate) fn behind_main(tokens: &[Token]) -> Option<&[Token]>
     ensures found { option_copied result ≡ behind_main tokens.now }
     ensures shorter { IfSome result (λ rest. length rest.now < length tokens.now) }
 {
@@ -41,7 +41,7 @@ fn behind_main(tokens: &[Token]) -> Option<&[Token]>
 
 // The tokens behind `int main(void) {`.
 #[tactic(auto, unfolding(crate::specs::Reading::header_at))]
-fn header_at(tokens: &[Token]) -> Option<&[Token]>
+pub(crate) fn header_at(tokens: &[Token]) -> Option<&[Token]>
     ensures found { option_copied result ≡ header_at tokens.now }
     ensures shorter { IfSome result (λ rest. length rest.now ≤ length tokens.now) }
 {
@@ -80,13 +80,13 @@ fn declared_at(tokens: &[Token]) -> Option<(&Name, &[Token])>
 
 // The declared names in order, the same names for look-ups, and the tokens behind the declarations.
 #[derive(Drop)]
-struct Declared<'a> {
+pub(crate) struct Declared<'a> {
     names: Vec<Name>,
-    index: IndexSet<Name>,
-    rest: &'a [Token],
+    pub(crate) index: IndexSet<Name>,
+    pub(crate) rest: &'a [Token],
 }
 
-fn declarations_at<'a>(
+pub(crate) fn declarations_at<'a>(
     alloc: Global,
     tokens: &'a [Token],
 ) -> Result<Option<Declared<'a>>, AllocError>

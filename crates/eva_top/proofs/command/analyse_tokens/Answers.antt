@@ -1,8 +1,7 @@
 use Rattle.std.proofs.Common.{◌≡◌, refl}
 use Rattle.first_program.specs.SourceViews.{program_of}
-use Rattle.eva_top.specs.declared.status.Refusal.TheVariants.{Form}
-use Rattle.eva_top.specs.declared.status.Status.TheVariants.{Refused, Memory}
-use Rattle.eva_top.proofs.Answering.{untouched, noted, note_put, reported}
+use Rattle.eva_top.specs.declared.status.Status.TheVariants.{Memory}
+use Rattle.eva_top.proofs.Answering.{untouched, noted, reported}
 use Rattle.eva_top.proofs.command.analyse_tokens.Goals as goal
 
 pub returns-in-Err : goal.returns-in-Err
@@ -10,9 +9,7 @@ returns-in-Err g c = λ call bytes read cut out notes. noted call _ _ _ Memory c
 
 pub returns-in-Ok-None : goal.returns-in-Ok-None
 returns-in-Ok-None g c = λ call bytes read cut out notes.
-    note_put call (Refused (Form _)) _ _ _ c.note.result notes (untouched call.out _ out)
-    (record { bytes = bytes; tokens = c.args.tokens.now; read = read; cut = cut; none = rw c.in-Ok-None.field-0-is at c.in-Ok-None.ensures.exact }, refl)
-    (c.note.ensures _ c.make_form_text-text.ensures)
+    c.refuse_tokens.ensures call bytes read cut (rw c.in-Ok-None.field-0-is at c.in-Ok-None.ensures.exact) (untouched call.out _ out) notes
 
 pub returns-in-Err-make_report : goal.returns-in-Err-make_report
 returns-in-Err-make_report g c = λ call bytes read cut out notes.

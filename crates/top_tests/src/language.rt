@@ -1,7 +1,8 @@
-use crate::parse;
+//! The small language, read from tokens.
 use c_base::name::Name;
 use c_base::number::Span;
 use c_base::token::{IntegerConstant, Keyword, Length, Punctuator, Radix, Token, Word};
+use first_language::{parse, refused_at};
 use first_program::tree::{Program, Sign, Stmt, Sum};
 use std::alloc::{AllocError, Global};
 use std::test::Fail;
@@ -222,5 +223,33 @@ fn long_sums_and_ladders_are_read(rt: HostRuntime) -> Result<(), Fail> {
     assert!(rt; read_many(alloc, "return 0", "+ 1", 200_000, ";", "")?.is_some());
     let ladder = read_many(alloc, "", "if ( 0 < 1 ) { } else", 100_000, "{ }", "")?;
     assert!(rt; ladder.is_some());
+    Ok(())
+}
+
+// The column of the place at which the words of a text stop being the front of a program.
+fn refused_column(alloc: Global, text: &str) -> Result<u32, AllocError> {
+    let mut tokens = Vec::new(alloc);
+    add(alloc, &mut tokens, text)?;
+    if tokens.len() > 1_000_000 {
+        return Ok(0);
+    }
+    Ok(refused_at(alloc, tokens.as_slice())?.col)
+}
+
+#[test]
+fn refusals_have_places(rt: HostRuntime) -> Result<(), Fail> {
+    let alloc = rt.alloc();
+    for (text, column) in [
+        ("", 1),
+        ("void main", 1),
+        ("int main ( ) {", 4),
+        ("int main ( void ) { int x = 1 ; }", 9),
+        ("int main ( void ) { int x ; int x ; }", 11),
+        ("int main ( void ) { return 0 ; } ;", 11),
+        ("int main ( void ) { return 0 ;", 9),
+        ("int main ( void ) { int x ; x = 1 ; return 0 < 1 ; }", 14),
+    ] {
+        assert!(rt; refused_column(alloc, text)? == column, "{text}");
+    }
     Ok(())
 }
