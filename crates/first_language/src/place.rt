@@ -49,10 +49,7 @@ fn behind_header(tokens: &[Token]) -> &[Token] {
 }
 
 // What is left of the tokens where declarations of different names go on no longer.
-fn behind_declarations<'a>(
-    alloc: Global,
-    tokens: &'a [Token],
-) -> Result<&'a [Token], AllocError> {
+fn behind_declarations<'a>(alloc: Global, tokens: &'a [Token]) -> Result<&'a [Token], AllocError> {
     let mut names = IndexSet::new(alloc);
     let mut rest = tokens;
     'declaring: while let Some(behind) = behind_keyword(rest, Keyword::Int) {
@@ -89,15 +86,23 @@ fn odd_place(alloc: Global, tokens: &[Token]) -> Result<Option<Span>, AllocError
         return Ok(first_place(behind_declarations(alloc, inner)?));
     };
     let mut spans = Vec::new(alloc);
-    match body_at(alloc, declared.rest, &declared.index, MOST_NESTING, &mut spans)? {
+    match body_at(
+        alloc,
+        declared.rest,
+        &declared.index,
+        MOST_NESTING,
+        &mut spans,
+    )? {
         None => Ok(match spans.last() {
             None => first_place(declared.rest),
             Some(span) => Some(*span),
         }),
-        Some((_, close)) => Ok(first_place(match behind_punctuator(close, Punctuator::CloseBrace) {
-            None => close,
-            Some(rest) => rest,
-        })),
+        Some((_, close)) => Ok(first_place(
+            match behind_punctuator(close, Punctuator::CloseBrace) {
+                None => close,
+                Some(rest) => rest,
+            },
+        )),
     }
 }
 
