@@ -19,7 +19,7 @@ use c_parse_base::found::Found;
 use c_parse_base::names::TypeNames;
 use c_parse_base::purpose::{Before, Purpose};
 use c_parse_base::scope::close;
-use c_parse_types::{is_none, specifiers_below};
+use c_parse_members::{is_none, specifiers_below};
 use c_tree::tree::{Declarator, Specifier};
 use sqlite_items::Items;
 use std::alloc::{AllocError, Global};

@@ -13,8 +13,9 @@ use c_parse_base::found::Found;
 use c_parse_base::names::TypeNames;
 use c_parse_base::purpose::{Before, Purpose};
 use c_parse_base::scope::close;
+use c_parse_declarators::declarator_rule;
 use c_parse_operators::expr_rule;
-use c_parse_types::{declarator_rule, specifier_rule, type_rule};
+use c_parse_types::{specifier_rule, type_rule};
 use c_tree::tree::{Declarator, Expr, Specifier, TypeName};
 use std::alloc::{AllocError, Global};
 

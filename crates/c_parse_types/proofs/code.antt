@@ -1,11 +1,1 @@
-pub mod Plainly
-pub mod Lists
-pub mod Narrowing
-pub mod Constants
-pub mod Declaring
-pub mod Membership
-pub mod Specifying
-pub mod Stacks
-pub mod TypeRounds
 pub mod Typing
-pub mod Whole

@@ -8,14 +8,12 @@ ghost use Rattle.c_parse_base.specs.Purposes.{before_of, purpose_of};
 ghost use Rattle.c_parse_base.specs.Reads.{IsFound};
 ghost use Rattle.c_parse_rules.specs.Tokens.{name_at};
 ghost use Rattle.c_parse_rules.specs.TypeRules.{is_untyped};
-ghost use Rattle.c_parse_types.specs.TypesAtDepth.{attribute_of, body_at, composite_at, composite_with, specifier_of, specifier_rule};
+ghost use Rattle.c_parse_attributes.specs.TypesAtDepth.{attribute_of, body_at, composite_at, composite_with, specifier_of, specifier_rule};
 
-use crate::attributes::{attribute_behind, attributes_at};
-use crate::enums::enum_at;
-use crate::members::members_at;
 use c_base::name::Name;
 use c_base::number::Span;
 use c_base::token::{Keyword, Punctuator, Token, Word};
+use c_parse_attributes::{attribute_behind, attributes_at};
 use c_parse_base::below::Below;
 use c_parse_base::expecting::expect_punctuator;
 use c_parse_base::found::Found;
@@ -25,6 +23,7 @@ use c_parse_base::purpose::{Before, Purpose};
 use c_parse_base::words::{
     behind_punctuator, is_qualifier, is_storage_word, is_type_word, name_at,
 };
+use c_parse_members::{enum_at, members_at};
 use c_tree::tree::{Attribute, CompositeSort, Specifier};
 use sqlite_items::Items;
 use std::alloc::{AllocError, Global};

@@ -10,14 +10,14 @@ use Rattle.c_tree.specs.Trees.{Tree}
 use Rattle.c_tree.specs.Trees as plain
 use Rattle.c_tree.specs.Views.{declarator_tree, listed, optional_declarator, specifier_tree, specifiers_of, type_name_tree}
 use Rattle.c_tree.specs.WellFormed.{Names, Before, Untyped, Purpose, after, after_all, before_end}
-use Rattle.c_parse_types.proofs.code.Membership.{specifiers_are}
-use Rattle.c_parse_types.proofs.code.Narrowing.{absent, named}
+use Rattle.c_parse_attributes.proofs.code.Membership.{specifiers_are}
+use Rattle.c_parse_attributes.proofs.code.Narrowing.{absent, named}
 use Rattle.c_parse_rules.specs.Parsers.{declarator_at, specifiers_at}
 use Rattle.c_parse_base.specs.Reads.{found_of, AreAfter, AreFound, IsFound, Measured}
 use Rattle.c_parse_rules.specs.Rules.{Found, Several}
 use Rattle.c_parse_rules.specs.TypeRules as types
 use Rattle.c_parse_rules.specs.TypeRules.{first_span}
-use Rattle.c_parse_types.specs.TypesAtDepth.{all_specifiers, measured, some_specifiers, specifier_rule, type_of, type_rule}
+use Rattle.c_parse_attributes.specs.TypesAtDepth.{all_specifiers, measured, some_specifiers, specifier_rule, type_of, type_rule}
 use Rattle.c_parse_base.specs.declared.found.Found.{Found as CodeFound}
 use Rattle.c_parse_base.specs.declared.found.Several.{Several as CodeSeveral}
 

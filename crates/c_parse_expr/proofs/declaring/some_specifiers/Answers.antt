@@ -1,6 +1,6 @@
 use Rattle.std.proofs.Common.{refl, sym}
 use Rattle.c_parse_rules.specs.Parsers.{specifier_at}
-use Rattle.c_parse_types.proofs.code.Membership.{specifiers_are}
+use Rattle.c_parse_attributes.proofs.code.Membership.{specifiers_are}
 use Rattle.c_parse_expr.proofs.declaring.some_specifiers.Goals as goal
 
 pub returns-then-is_none-clause-found : goal.returns-then-is_none-clause-found

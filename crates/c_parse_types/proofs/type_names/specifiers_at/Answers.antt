@@ -1,9 +1,9 @@
 use Rattle.std.proofs.Common.{◌∙◌, map, refl, arith}
 use Rattle.c_tree.specs.Views.{specifier_tree}
 use Rattle.c_parse_base.specs.Purposes.{purpose_of}
-use Rattle.c_parse_types.specs.TypesAtDepth.{all_specifiers, specifier_rule}
+use Rattle.c_parse_attributes.specs.TypesAtDepth.{all_specifiers, specifier_rule}
 use Rattle.c_parse_base.proofs.code.Loops.{begun, read_on, read_end}
-use Rattle.c_parse_types.proofs.code.Specifying.{before_grown, fewer_left, specifiers_go_on, specifiers_stop}
+use Rattle.c_parse_members.proofs.code.Specifying.{before_grown, fewer_left, specifiers_go_on, specifiers_stop}
 use Rattle.c_parse_types.proofs.type_names.specifiers_at.Goals as goal
 
 pub reading-init : goal.reading-init

@@ -3,7 +3,7 @@ use Rattle.c_tree.specs.Views.{specifier_tree, specifiers_of}
 use Rattle.c_tree.specs.WellFormed.{before_end, Untyped}
 use Rattle.c_parse_base.specs.KnownNames.{kept}
 use Rattle.c_parse_base.specs.Purposes.{before_of, purpose_of}
-use Rattle.c_parse_types.specs.TypesAtDepth.{all_specifiers, specifier_rule, specifiers_from}
+use Rattle.c_parse_attributes.specs.TypesAtDepth.{all_specifiers, specifier_rule, specifiers_from}
 use Rattle.c_parse_base.proofs.code.Loops.{Midst}
 use Rattle.c_parse_types.proofs.type_names.specifiers_at.Given as goal
 

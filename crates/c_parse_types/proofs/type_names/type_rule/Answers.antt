@@ -1,8 +1,8 @@
 use Rattle.c_tree.specs.Views.{type_name_tree}
 use Rattle.c_parse_base.specs.Purposes.{before_of, purpose_of}
-use Rattle.c_parse_types.specs.TypesAtDepth.{specifier_rule}
-use Rattle.c_parse_types.proofs.code.Membership.{specifiers_are}
-use Rattle.c_parse_types.proofs.code.Narrowing.{absent}
+use Rattle.c_parse_attributes.specs.TypesAtDepth.{specifier_rule}
+use Rattle.c_parse_attributes.proofs.code.Membership.{specifiers_are}
+use Rattle.c_parse_attributes.proofs.code.Narrowing.{absent}
 use Rattle.c_parse_types.proofs.code.Typing.{type_none, type_with, type_without}
 use Rattle.c_parse_types.proofs.type_names.type_rule.Goals as goal
 

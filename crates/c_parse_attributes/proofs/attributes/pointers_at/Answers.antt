@@ -1,0 +1,15 @@
+use Rattle.std.proofs.Common.{[]}
+use Rattle.c_parse_rules.specs.TypeRules.{pointers}
+use Rattle.c_parse_attributes.proofs.code.Lists.{list_begins, list_goes_on, list_ends}
+use Rattle.c_parse_attributes.proofs.code.Plainly.{pointer_goes_on, pointer_stops}
+use Rattle.c_parse_attributes.proofs.attributes.pointers_at.Goals as goal
+
+pub reading-init : goal.reading-init
+reading-init c = rw c.new-found.ensures.items (list_begins pointers [] c.args.tokens.now)
+
+pub reading-preserved : goal.reading-preserved
+reading-preserved c =
+    list_goes_on pointers _ _ _ _ _ _ _ c.reading.invariant (rw c.in-Some.is at c.in_ok-pointer.ensures.shorter) c.in_ok-push.ensures.items (pointer_goes_on _ c.reading.rest.now _ _ (rw c.in-Some.is at c.in_ok-pointer.ensures.found))
+
+pub returns-clause-found : goal.returns-clause-found
+returns-clause-found c = rw c.from_vec.ensures (list_ends pointers _ _ _ _ c.reading.invariant (pointer_stops _ c.reading.rest.now (rw c.in_default.is at c.in_ok-pointer.ensures.found)))

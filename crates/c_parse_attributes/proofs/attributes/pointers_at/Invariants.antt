@@ -1,0 +1,10 @@
+use Rattle.std.proofs.Common.{[], suc, length}
+use Rattle.c_parse_rules.specs.TypeRules.{pointers}
+use Rattle.c_parse_attributes.proofs.code.Lists.{MidList}
+use Rattle.c_parse_attributes.proofs.attributes.pointers_at.Given as goal
+
+abbrev pub invariant-reading : goal.invariant-reading
+invariant-reading l = MidList pointers (pointers (suc (length l.tokens)) [] l.tokens) l.tokens l.found.items l.rest
+
+abbrev pub decreases-reading : goal.decreases-reading
+decreases-reading l = length l.rest

@@ -1,0 +1,5 @@
+pub mod Lists
+pub mod Plainly
+pub mod Narrowing
+pub mod TypeRounds
+pub mod Membership

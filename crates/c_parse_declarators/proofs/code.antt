@@ -1,0 +1,3 @@
+pub mod Declaring
+pub mod Stacks
+pub mod Whole

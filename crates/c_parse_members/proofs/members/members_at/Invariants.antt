@@ -1,0 +1,15 @@
+use Rattle.std.proofs.Common.{◌≡◌, [], length}
+use Rattle.c_tree.specs.Views.{member_tree}
+use Rattle.c_parse_base.specs.KnownNames.{kept}
+use Rattle.c_parse_attributes.specs.TypesAtDepth.{all_members, members}
+use Rattle.c_parse_base.proofs.code.Loops.{Midst}
+use Rattle.c_parse_members.proofs.members.members_at.Given as goal
+
+abbrev pub invariant-reading : goal.invariant-reading
+invariant-reading g l =
+    (kept l.names ≡ kept l.initial.names)
+    × Midst member_tree (members (g.B.Below.depth l.below)) (all_members (g.B.Below.depth l.below) l.initial.names.names l.tokens)
+    l.initial.names.names [] l.tokens l.found.items l.height l.names.names l.rest
+
+abbrev pub decreases-reading : goal.decreases-reading
+decreases-reading g l = length l.rest
