@@ -265,7 +265,7 @@ fn declarator_of<'a>(
 }
 
 /// A declarator behind specifiers, whose parts are read with `below`.
-#[tactic(auto, unfolding(c_parse_rules::specs::TypeRules::declarator_rule, c_parse_rules::specs::TypeRules::declarator_behind, crate::specs::TypesAtDepth::all_suffixes))]
+#[tactic(auto, unfolding(c_parse_rules::specs::TypeRules::declarator_rule, c_parse_rules::specs::TypeRules::declarator_behind, c_parse_attributes::specs::TypesAtDepth::all_suffixes))]
 pub fn declarator_rule<'a, B: Below<'a>>(
     below: &B,
     alloc: Global,

@@ -232,7 +232,7 @@ fn function_of<'a>(span: Span, parameters: Several<'a, TypeName>) -> Option<Foun
 }
 
 // Behind the `(`. The parameters stay declared.
-#[tactic(auto, unfolding(crate::specs::TypesAtDepth::all_parameters))]
+#[tactic(auto, unfolding(c_parse_attributes::specs::TypesAtDepth::all_parameters))]
 fn function_inside<'a, B: Below<'a>>(
     below: &B,
     alloc: Global,

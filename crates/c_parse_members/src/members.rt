@@ -203,7 +203,7 @@ fn more_fields<'a, B: Below<'a>>(
 }
 
 // The fields behind their specifiers, as many as there are.
-#[tactic(auto, unfolding(crate::specs::TypesAtDepth::all_fields))]
+#[tactic(auto, unfolding(c_parse_attributes::specs::TypesAtDepth::all_fields))]
 fn fields_from<'a, B: Below<'a>>(
     below: &B,
     alloc: Global,

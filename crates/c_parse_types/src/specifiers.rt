@@ -29,7 +29,7 @@ use sqlite_items::Items;
 use std::alloc::{AllocError, Global};
 
 // Behind the `{`.
-#[tactic(auto, unfolding(c_parse_rules::specs::TypeRules::body_at, crate::specs::TypesAtDepth::all_members))]
+#[tactic(auto, unfolding(c_parse_rules::specs::TypeRules::body_at, c_parse_attributes::specs::TypesAtDepth::all_members))]
 fn body_at<'a, B: Below<'a>>(
     below: &B,
     alloc: Global,

@@ -15,6 +15,19 @@ run_from-requires-clause-first c =
     let e : c.max.result ≡ int_max c.least.result c.low_of.result = simp to_z-of_z at c.max.ensures.value in
     simp to_z-of_z (record { least = omega (arith, ints, clamps, e); greatest = omega (arith, ints, clamps, e) })
 
+pub run_from-requires-clause-order : goal.run_from-requires-clause-order
+run_from-requires-clause-order c =
+    let a = c.least.ensures.below in let b = c.low_of.ensures.below in let u = c.greatest.ensures.above in
+    let f : FitsSigned w128 c.low_of.result = record { sfits = c.low_of.type_inv } in
+    let g : FitsSigned w128 c.least.result = record { sfits = c.least.type_inv } in
+    let h : FitsSigned w128 c.max.result = record { sfits = c.max.type_inv } in
+    let i : FitsSigned w128 c.greatest.result = record { sfits = c.greatest.type_inv } in
+    let j : FitsSigned w128 c.min.result = record { sfits = c.min.type_inv } in
+    let k : to_z w128 c.args.m ≡ pos c.args.m = to_z_pos w128 c.args.m (omega arith) in
+    let e : c.max.result ≡ int_max c.least.result c.low_of.result = simp to_z-of_z at c.max.ensures.value in
+    let d : c.min.result ≡ int_min c.greatest.result (to_z w128 c.args.m) = simp to_z-of_z at c.min.ensures.value in
+    simp to_z-of_z (omega (arith, ints, clamps, e, d, k))
+
 pub returns : goal.returns
 returns c =
     let o = c.args.format in
