@@ -1,6 +1,6 @@
 -- How many bits numbers have.
 use Rattle.std.proofs.Common.{◌≡◌, ℕ, suc, ◌+◌, ◌-◌, ◌*◌, ◌<◌, ◌≤◌, ◌^◌, Bool, true, false, ℤ, pos, negsuc, max, sym, subst, inl, inr, arith}
-use Rattle.std.specs.Prelude.{unsigned_abs}
+use Rattle.std.specs.Prelude.{unsigned_abs, ◌+ℤ◌}
 use Rattle.std.specs.Int.{w128, leading_zeros}
 use Rattle.std.proofs.lemmas.Int.{ints}
 use Rattle.std.proofs.lemmas.Bool.{cases_lt}
@@ -112,3 +112,12 @@ typed_small signed width n w i f =
 
 pub length_zero : length_of 0 ≡ 0
 length_zero = let h = length_within 0 0 (omega arith) (omega arith) in omega (arith, h)
+
+-- sums of numbers of a type are numbers of a set
+pub sum_number : (signed : Bool) (width : ℕ) (x y : ℤ) → width ≤ 64 → FitsBits signed width x → FitsBits signed width y → IsNumber (x +ℤ y)
+sum_number signed width x y w f g =
+    let s = type_small signed width w in
+    let p = within_more (type_bits signed width) 64 x s (fits_within signed width x f) in
+    let q = within_more (type_bits signed width) 64 y s (fits_within signed width y g) in
+    let a = p.above in let b = p.below in let c = q.above in let d = q.below in
+    record { least = omega (arith, ints); greatest = omega (arith, ints) }

@@ -1,9 +1,10 @@
-use Rattle.std.proofs.Common.{◌∙◌, ap, max, FitsSigned, rules}
+use Rattle.std.proofs.Common.{◌∙◌, ap, max, FitsSigned, ℤ, rules}
 use Rattle.std.specs.Int.{w128}
 use Rattle.std.proofs.lemmas.Int.{to_z-of_z}
+use Rattle.ival_core.specs.declared.value.Ival.{Ival}
 use Rattle.ival_core.specs.Ivals.{IsBounds}
 use Rattle.ival_core.proofs.Insertion.{Holds-number}
-use Rattle.ival_bits.specs.Spans.{sized}
+use Rattle.ival_bits.specs.Spans.{IsEnds, sized}
 use Rattle.ival_bits.proofs.Sizes.{Room, room_of}
 use Rattle.ival_bits.proofs.spans.bounds_value.Goals as goal
 
@@ -33,3 +34,34 @@ pub spanned-requires-clause-other : goal.spanned-requires-clause-other
 spanned-requires-clause-other c =
     let f : FitsSigned w128 c.in-Some-bounds.least = search rules in
     simp to_z-of_z (room c).low
+
+ends : (v : Ival) (low high : ℤ) → IsBounds v low high → IsEnds (record { low = low; high = high })
+ends v low high h = record {
+  least = Holds-number v low h.first;
+  greatest = Holds-number v high h.last;
+  order = (h.between low h.first).1;
+}
+
+pub ends_sized-requires : goal.ends_sized-requires
+ends_sized-requires c =
+    let f : FitsSigned w128 c.in-Some.low = search rules in
+    let g : FitsSigned w128 c.in-Some.high = search rules in
+    simp to_z-of_z (ends c.args.a.now c.in-Some.low c.in-Some.high c.in-Some.ensures.some)
+
+pub ends_sized-requires-2 : goal.ends_sized-requires-2
+ends_sized-requires-2 c =
+    let f : FitsSigned w128 c.in-Some-bounds.least = search rules in
+    let g : FitsSigned w128 c.in-Some-bounds.greatest = search rules in
+    simp to_z-of_z (ends c.args.b.now c.in-Some-bounds.least c.in-Some-bounds.greatest c.in-Some-bounds.ensures.some)
+
+pub spanned-requires-clause-left : goal.spanned-requires-clause-left
+spanned-requires-clause-left c =
+    let f : FitsSigned w128 c.in-Some.low = search rules in
+    let g : FitsSigned w128 c.in-Some.high = search rules in
+    simp to_z-of_z (ends c.args.a.now c.in-Some.low c.in-Some.high c.in-Some.ensures.some)
+
+pub spanned-requires-clause-right : goal.spanned-requires-clause-right
+spanned-requires-clause-right c =
+    let f : FitsSigned w128 c.in-Some-bounds.least = search rules in
+    let g : FitsSigned w128 c.in-Some-bounds.greatest = search rules in
+    simp to_z-of_z (ends c.args.b.now c.in-Some-bounds.least c.in-Some-bounds.greatest c.in-Some-bounds.ensures.some)
