@@ -1,7 +1,6 @@
 ghost use Rattle.std.specs.Prelude.{◌≡◌, ◌≤◌, ◌++◌, ◌∷◌, [], ℕ, List, length, map, string_bytes, ◌≢◌, IfOk, OnOk};
 ghost use Rattle.first_program.specs.Meaning.{meaning_of};
 ghost use Rattle.first_program.specs.SourceViews.{program_of, IsShaped};
-ghost use Rattle.first_program.specs.Source.{Program};
 ghost use Rattle.first_language.specs.Language.{Spells};
 ghost use Rattle.c_lex.specs.Lexing.{AreAnswered, IsRefusal};
 ghost use Rattle.eva_report.specs.Report.{line_end};
@@ -176,7 +175,7 @@ fn refuse_bytes<N: Sink>(alloc: Global, fault: LexFault, notes: &mut N) -> Statu
 fn refuse_tokens<N: Sink>(alloc: Global, tokens: &[Token], notes: &mut N) -> Status
     requires { length tokens.now ≤ 2000000 }
     ensures { (c : _) (bytes : List ℕ) → IsRead c bytes → AreAnswered bytes tokens.now
-        → ((p : Program) → Spells tokens.now p → ⊥)
+        → ((p : _) → Spells tokens.now p → ⊥)
         → c.out.after.written ≡ c.out.before.written
         → c.notes ≡ sunk (N.state notes.old) (N.state notes.new)
         → Answers c result }

@@ -246,7 +246,7 @@ fn refusals_have_places(rt: HostRuntime) -> Result<(), Fail> {
         ("int main ( void ) { int x = 1 ; }", 9),
         ("int main ( void ) { int x ; int x ; }", 11),
         ("int main ( void ) { return 0 ; } ;", 11),
-        ("int main ( void ) { return 0 ;", 9),
+        ("int main ( void ) { return 0 ;", 7),
         ("int main ( void ) { int x ; x = 1 ; return 0 < 1 ; }", 14),
     ] {
         assert!(rt; refused_column(alloc, text)? == column, "{text}");
