@@ -4,5 +4,5 @@
 use std::process::ExitCode;
 
 fn main(rt: HostRuntime) -> ExitCode {
-    eva_main::run(rt)
+    eva_main::run(&rt, &rt)
 }

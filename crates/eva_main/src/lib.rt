@@ -7,6 +7,7 @@ use eva_top::command::{eva, note_memory, note_usage};
 use eva_top::status::Status;
 use std::alloc::AllocError;
 use std::process::ExitCode;
+use std::thread::Threads;
 use std::{env, io};
 
 // The words behind the program's name.
@@ -29,14 +30,16 @@ fn refuse_words(rt: &HostRuntime, error: io::Error) -> Status {
 }
 
 /// Runs the command on the words of the command line, and answers the status with which the program ends.
-pub fn run(rt: HostRuntime) -> ExitCode {
-    let status = match words_of(&rt) {
-        Err(error) => refuse_words(&rt, error),
+///
+/// `threads` is the handle for calls that start threads, which `main` alone can give.
+pub fn run(rt: &HostRuntime, threads: &(impl Threads + Sync)) -> ExitCode {
+    let status = match words_of(rt) {
+        Err(error) => refuse_words(rt, error),
         Ok(words) => {
-            let mut store = FileStore::new(&rt);
-            let mut out = StdSink::out(&rt);
-            let mut notes = StdSink::notes(&rt);
-            eva(&rt, rt.alloc(), &words, &mut store, &mut out, &mut notes)
+            let mut store = FileStore::new(rt);
+            let mut out = StdSink::out(rt);
+            let mut notes = StdSink::notes(rt);
+            eva(threads, rt.alloc(), &words, &mut store, &mut out, &mut notes)
         }
     };
     ExitCode::from(status.exit_status())
