@@ -39,7 +39,14 @@ pub fn run(rt: &HostRuntime, threads: &(impl Threads + Sync)) -> ExitCode {
             let mut store = FileStore::new(rt);
             let mut out = StdSink::out(rt);
             let mut notes = StdSink::notes(rt);
-            eva(threads, rt.alloc(), &words, &mut store, &mut out, &mut notes)
+            eva(
+                threads,
+                rt.alloc(),
+                &words,
+                &mut store,
+                &mut out,
+                &mut notes,
+            )
         }
     };
     ExitCode::from(status.exit_status())
