@@ -4,26 +4,26 @@ use Rattle.std.specs.Bool.{Decides}
 use Rattle.std.proofs.lemmas.Bool.Decides.{nat_tests}
 use Rattle.std.proofs.lemmas.Slice.Eq.{bytes_eq-Decides}
 use Rattle.c_base.specs.declared.token.Keyword.{Keyword}
-use Rattle.c_lex.specs.declared.word.Spelling.{Spelling}
+use Rattle.c_lex.specs.declared.word.KeywordSpelling.{KeywordSpelling}
 use Rattle.c_lex.specs.Words.{keyword_in, keywords, kept, of_length, row}
 
-abbrev pub LooksFor : List Spelling → List ℕ → ℕ → Type 0
+abbrev pub LooksFor : List KeywordSpelling → List ℕ → ℕ → Type 0
 LooksFor table text next = keyword_in (map row (drop next table)) text ≡ keyword_in (map row table) text
 
-at_front : (table : List Spelling) (text : List ℕ) (next : ℕ) (d : Spelling) → next < length table →
+at_front : (table : List KeywordSpelling) (text : List ℕ) (next : ℕ) (d : KeywordSpelling) → next < length table →
     keyword_in (map row (drop next table)) text ≡ cond (bytes_eq text (get_or table next d).text.now) (Some (get_or table next d).keyword) (keyword_in (map row (drop (next + 1) table)) text)
 unfolding keyword_in
 at_front table text next d h = rw (drop-cons table next d, add-one) refl
 
-pub looks_on : (table : List Spelling) (text : List ℕ) (next : ℕ) (d : Spelling) → next < length table → bytes_eq text (get_or table next d).text.now ≡ false →
+pub looks_on : (table : List KeywordSpelling) (text : List ℕ) (next : ℕ) (d : KeywordSpelling) → next < length table → bytes_eq text (get_or table next d).text.now ≡ false →
     LooksFor table text next → LooksFor table text (next + 1)
 looks_on table text next d h e k = let f = at_front table text next d h in sym (sym k ∙ f ∙ rw e refl)
 
-pub looks_found : (table : List Spelling) (text : List ℕ) (next : ℕ) (d : Spelling) → next < length table → bytes_eq text (get_or table next d).text.now ≡ true →
+pub looks_found : (table : List KeywordSpelling) (text : List ℕ) (next : ℕ) (d : KeywordSpelling) → next < length table → bytes_eq text (get_or table next d).text.now ≡ true →
     LooksFor table text next → Some (get_or table next d).keyword ≡ keyword_in (map row table) text
 looks_found table text next d h e k = let f = at_front table text next d h in sym (sym k ∙ f ∙ rw e refl)
 
-pub looks_none : (table : List Spelling) (text : List ℕ) (next : ℕ) → length table ≤ next → LooksFor table text next → None ≡ keyword_in (map row table) text
+pub looks_none : (table : List KeywordSpelling) (text : List ℕ) (next : ℕ) → length table ≤ next → LooksFor table text next → None ≡ keyword_in (map row table) text
 unfolding keyword_in
 looks_none table text next h k = rw (drop_of_length-le table {i = next} h) at k
 

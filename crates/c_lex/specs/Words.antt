@@ -3,7 +3,7 @@ use Rattle.std.specs.Prelude.{ℕ, ◌==◌, length, Bool, true, false, cond, Li
 use lib.Chars.{codes}
 use Rattle.c_base.specs.declared.token.Keyword.{Keyword}
 use Rattle.c_base.specs.declared.token.Keyword.TheVariants.{Auto, Break, Case, Char, Const, Continue, Default, Do, Double, Else, Enum, Extern, Float, For, Goto, If, Inline, Int, Long, Register, Restrict, Return, Short, Signed, Sizeof, Static, Struct, Switch, Typedef, Union, Unsigned, Void, Volatile, While, Alignas, Alignof, Atomic, Bool as BoolWord, Complex, Generic, Imaginary, Noreturn, StaticAssert, ThreadLocal, Asm, Attribute, BuiltinOffsetof, BuiltinVaList}
-use Rattle.c_lex.specs.declared.word.Spelling.{Spelling}
+use Rattle.c_lex.specs.declared.word.KeywordSpelling.{KeywordSpelling}
 
 -- the keyword of the first spelling in a table that is the text
 unfoldable pub keyword_in : List (List ℕ × Keyword) → List ℕ → Option Keyword
@@ -43,7 +43,7 @@ of_length n [] = []
 of_length n (s ∷ table) = kept (length s.0 == n) s (of_length n table)
 
 -- a row of the code's table
-abbrev pub row : Spelling → List ℕ × Keyword
+abbrev pub row : KeywordSpelling → List ℕ × Keyword
 row s = (s.text.now, s.keyword)
 
 -- a name that is no token

@@ -6,256 +6,256 @@ use c_base::token::Keyword;
 
 /// A spelling of a keyword.
 #[derive(Clone, Copy)]
-pub struct Spelling {
+pub struct KeywordSpelling {
     pub text: &'static [u8],
     pub keyword: Keyword,
 }
 
 /// C11's keywords, the words of GCC that stand where no name can, and GCC's other spellings, by their length.
-pub const KEYWORDS: [Spelling; 59] = [
-    Spelling {
+pub const KEYWORDS: [KeywordSpelling; 59] = [
+    KeywordSpelling {
         text: b"do",
         keyword: Keyword::Do,
     },
-    Spelling {
+    KeywordSpelling {
         text: b"if",
         keyword: Keyword::If,
     },
-    Spelling {
+    KeywordSpelling {
         text: b"for",
         keyword: Keyword::For,
     },
-    Spelling {
+    KeywordSpelling {
         text: b"int",
         keyword: Keyword::Int,
     },
-    Spelling {
+    KeywordSpelling {
         text: b"asm",
         keyword: Keyword::Asm,
     },
-    Spelling {
+    KeywordSpelling {
         text: b"auto",
         keyword: Keyword::Auto,
     },
-    Spelling {
+    KeywordSpelling {
         text: b"case",
         keyword: Keyword::Case,
     },
-    Spelling {
+    KeywordSpelling {
         text: b"char",
         keyword: Keyword::Char,
     },
-    Spelling {
+    KeywordSpelling {
         text: b"else",
         keyword: Keyword::Else,
     },
-    Spelling {
+    KeywordSpelling {
         text: b"enum",
         keyword: Keyword::Enum,
     },
-    Spelling {
+    KeywordSpelling {
         text: b"goto",
         keyword: Keyword::Goto,
     },
-    Spelling {
+    KeywordSpelling {
         text: b"long",
         keyword: Keyword::Long,
     },
-    Spelling {
+    KeywordSpelling {
         text: b"void",
         keyword: Keyword::Void,
     },
-    Spelling {
+    KeywordSpelling {
         text: b"break",
         keyword: Keyword::Break,
     },
-    Spelling {
+    KeywordSpelling {
         text: b"const",
         keyword: Keyword::Const,
     },
-    Spelling {
+    KeywordSpelling {
         text: b"float",
         keyword: Keyword::Float,
     },
-    Spelling {
+    KeywordSpelling {
         text: b"short",
         keyword: Keyword::Short,
     },
-    Spelling {
+    KeywordSpelling {
         text: b"union",
         keyword: Keyword::Union,
     },
-    Spelling {
+    KeywordSpelling {
         text: b"while",
         keyword: Keyword::While,
     },
-    Spelling {
+    KeywordSpelling {
         text: b"_Bool",
         keyword: Keyword::Bool,
     },
-    Spelling {
+    KeywordSpelling {
         text: b"__asm",
         keyword: Keyword::Asm,
     },
-    Spelling {
+    KeywordSpelling {
         text: b"double",
         keyword: Keyword::Double,
     },
-    Spelling {
+    KeywordSpelling {
         text: b"extern",
         keyword: Keyword::Extern,
     },
-    Spelling {
+    KeywordSpelling {
         text: b"inline",
         keyword: Keyword::Inline,
     },
-    Spelling {
+    KeywordSpelling {
         text: b"return",
         keyword: Keyword::Return,
     },
-    Spelling {
+    KeywordSpelling {
         text: b"signed",
         keyword: Keyword::Signed,
     },
-    Spelling {
+    KeywordSpelling {
         text: b"sizeof",
         keyword: Keyword::Sizeof,
     },
-    Spelling {
+    KeywordSpelling {
         text: b"static",
         keyword: Keyword::Static,
     },
-    Spelling {
+    KeywordSpelling {
         text: b"struct",
         keyword: Keyword::Struct,
     },
-    Spelling {
+    KeywordSpelling {
         text: b"switch",
         keyword: Keyword::Switch,
     },
-    Spelling {
+    KeywordSpelling {
         text: b"default",
         keyword: Keyword::Default,
     },
-    Spelling {
+    KeywordSpelling {
         text: b"typedef",
         keyword: Keyword::Typedef,
     },
-    Spelling {
+    KeywordSpelling {
         text: b"_Atomic",
         keyword: Keyword::Atomic,
     },
-    Spelling {
+    KeywordSpelling {
         text: b"__asm__",
         keyword: Keyword::Asm,
     },
-    Spelling {
+    KeywordSpelling {
         text: b"__const",
         keyword: Keyword::Const,
     },
-    Spelling {
+    KeywordSpelling {
         text: b"continue",
         keyword: Keyword::Continue,
     },
-    Spelling {
+    KeywordSpelling {
         text: b"register",
         keyword: Keyword::Register,
     },
-    Spelling {
+    KeywordSpelling {
         text: b"restrict",
         keyword: Keyword::Restrict,
     },
-    Spelling {
+    KeywordSpelling {
         text: b"unsigned",
         keyword: Keyword::Unsigned,
     },
-    Spelling {
+    KeywordSpelling {
         text: b"volatile",
         keyword: Keyword::Volatile,
     },
-    Spelling {
+    KeywordSpelling {
         text: b"_Alignas",
         keyword: Keyword::Alignas,
     },
-    Spelling {
+    KeywordSpelling {
         text: b"_Alignof",
         keyword: Keyword::Alignof,
     },
-    Spelling {
+    KeywordSpelling {
         text: b"_Complex",
         keyword: Keyword::Complex,
     },
-    Spelling {
+    KeywordSpelling {
         text: b"_Generic",
         keyword: Keyword::Generic,
     },
-    Spelling {
+    KeywordSpelling {
         text: b"__inline",
         keyword: Keyword::Inline,
     },
-    Spelling {
+    KeywordSpelling {
         text: b"_Noreturn",
         keyword: Keyword::Noreturn,
     },
-    Spelling {
+    KeywordSpelling {
         text: b"_Imaginary",
         keyword: Keyword::Imaginary,
     },
-    Spelling {
+    KeywordSpelling {
         text: b"__inline__",
         keyword: Keyword::Inline,
     },
-    Spelling {
+    KeywordSpelling {
         text: b"__restrict",
         keyword: Keyword::Restrict,
     },
-    Spelling {
+    KeywordSpelling {
         text: b"__volatile",
         keyword: Keyword::Volatile,
     },
-    Spelling {
+    KeywordSpelling {
         text: b"__signed__",
         keyword: Keyword::Signed,
     },
-    Spelling {
+    KeywordSpelling {
         text: b"__attribute",
         keyword: Keyword::Attribute,
     },
-    Spelling {
+    KeywordSpelling {
         text: b"__restrict__",
         keyword: Keyword::Restrict,
     },
-    Spelling {
+    KeywordSpelling {
         text: b"__volatile__",
         keyword: Keyword::Volatile,
     },
-    Spelling {
+    KeywordSpelling {
         text: b"_Thread_local",
         keyword: Keyword::ThreadLocal,
     },
-    Spelling {
+    KeywordSpelling {
         text: b"__attribute__",
         keyword: Keyword::Attribute,
     },
-    Spelling {
+    KeywordSpelling {
         text: b"_Static_assert",
         keyword: Keyword::StaticAssert,
     },
-    Spelling {
+    KeywordSpelling {
         text: b"__builtin_va_list",
         keyword: Keyword::BuiltinVaList,
     },
-    Spelling {
+    KeywordSpelling {
         text: b"__builtin_offsetof",
         keyword: Keyword::BuiltinOffsetof,
     },
 ];
 
 /// The keywords whose spellings have so many bytes.
-fn spellings_of(length: usize) -> &'static [Spelling]
+fn spellings_of(length: usize) -> &'static [KeywordSpelling]
     ensures { map row result.now ≡ of_length length keywords }
 {
-    let all: &'static [Spelling] = &KEYWORDS;
+    let all: &'static [KeywordSpelling] = &KEYWORDS;
     match length {
         2 => &all[..2],
         3 => &all[2..5],
@@ -277,7 +277,7 @@ fn spellings_of(length: usize) -> &'static [Spelling]
 }
 
 #[tactic(auto, unfolding(crate::specs::Words::keyword_in))]
-fn keyword_among(text: &[u8], spellings: &[Spelling]) -> Option<Keyword>
+fn keyword_among(text: &[u8], spellings: &[KeywordSpelling]) -> Option<Keyword>
     ensures { result ≡ keyword_in (map row spellings.now) text.now }
 {
     for spelling in spellings {
