@@ -1,0 +1,6 @@
+//! The parts of simple programs: expressions without effects, and edges between places, each with one act.
+#![tactic(auto)]
+
+mod copies;
+pub mod edge;
+pub mod expr;

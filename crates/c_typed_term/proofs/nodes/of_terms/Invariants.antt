@@ -1,0 +1,6 @@
+use Rattle.std.proofs.Common.{◌≡◌, ◌+◌, ◌<◌, ◌^◌, drop}
+use Rattle.c_typed_term.specs.Nodes.{nodes_of_terms}
+use Rattle.c_typed_term.proofs.nodes.of_terms.Given as goal
+
+abbrev pub invariant-loop-each : goal.invariant-loop-each
+invariant-loop-each l = nodes_of_terms l.all < 2 ^ 62 → l.total + nodes_of_terms (drop l.each-index l.all) ≡ nodes_of_terms l.all

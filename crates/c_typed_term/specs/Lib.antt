@@ -1,0 +1,3 @@
+pub mod Terms
+pub mod Views
+pub mod Nodes

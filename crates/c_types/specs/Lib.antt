@@ -1,0 +1,5 @@
+pub mod Types
+pub mod Views
+pub mod Sizes
+pub mod Agreeing
+pub mod Compatible
