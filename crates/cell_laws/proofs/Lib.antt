@@ -1,0 +1,10 @@
+pub mod Places
+pub mod Ordering
+pub mod Soundness
+pub mod Cuts
+pub mod Joins
+pub mod Parts
+pub mod Accesses
+pub mod Steps
+pub mod Stretches
+pub mod Splits

@@ -1,0 +1,3 @@
+pub mod Building
+pub mod Gluing
+pub mod Weakening

@@ -1,0 +1,104 @@
+//! The laws. A list of elements is fine where each cell may stand in its element, as in every map.
+ghost use Rattle.std.specs.Prelude.{◌≡◌, ℕ, ◌+◌, ◌≤◌, true, List, ◌++◌, length, take, drop};
+ghost use Rattle.cell_laws.specs.Elements.{Element, AllFine, width};
+ghost use Rattle.cell_laws.specs.Order.{included};
+ghost use Rattle.cell_laws.specs.Meaning.{Describes};
+ghost use Rattle.cell_laws.specs.Join.{joined, joined_cell};
+ghost use Rattle.cell_laws.specs.Access.{take_bits, drop_bits, copied, pasted, put, stored, loaded_all, weakened, IsSize, AllWithin};
+ghost use Rattle.cell_laws.specs.Laws.{MergeLaws};
+ghost use Rattle.offmap_laws.specs.Offsets.{IsAmong};
+
+use crate::concrete::Concrete;
+use cell_runs::cells::Cells;
+
+/// Each map includes itself.
+pub fn inclusion_is_reflexive<C: Cells>()
+    ensures { (a : List (Element C)) → AllFine C.fine a → included C.ops a a ≡ true }
+{}
+
+/// What a map that includes another includes, that one includes too.
+pub fn inclusion_is_transitive<C: Cells>()
+    ensures { (a b c : List (Element C)) → AllFine C.fine a → AllFine C.fine b → AllFine C.fine c →
+        width a ≡ width b → width b ≡ width c → included C.ops a b ≡ true → included C.ops b c ≡ true →
+        included C.ops a c ≡ true }
+{}
+
+/// A map that includes another describes what that one describes.
+pub fn inclusion_is_sound<C: Cells, M: Concrete<C>>()
+    ensures { (a b : List (Element C)) (ks : List M.Bit) → AllFine C.fine a → AllFine C.fine b → width a ≡ width b →
+        included C.ops a b ≡ true → Describes M.allows a ks → Describes M.allows b ks }
+{}
+
+/// The join of two maps, or their widening, includes the first, and is as long.
+pub fn join_includes_first<C: Cells>()
+    ensures { (merge : ℕ → C → C → C) (a b : List (Element C)) → MergeLaws C.ops C.fine merge → AllFine C.fine a → AllFine C.fine b →
+        width a ≡ width b → included C.ops a (joined C.ops merge a b) ≡ true }
+{}
+
+/// And the second.
+pub fn join_includes_second<C: Cells>()
+    ensures { (merge : ℕ → C → C → C) (a b : List (Element C)) → MergeLaws C.ops C.fine merge → AllFine C.fine a → AllFine C.fine b →
+        width a ≡ width b → included C.ops b (joined C.ops merge a b) ≡ true }
+{}
+
+/// Where the first map is included in the second, their join is the second.
+pub fn join_with_included<C: Cells>()
+    ensures { (a b : List (Element C)) → width a ≡ width b → included C.ops a b ≡ true →
+        joined C.ops (joined_cell C.ops) a b ≡ b }
+{}
+
+/// The join's cells keep what is asked of the function that makes one of two.
+pub fn join_merges<C: Cells>()
+    ensures { MergeLaws C.ops C.fine (joined_cell C.ops) }
+{}
+
+/// Where a part was pasted, it stands.
+pub fn paste_is_copied<C: Cells>()
+    ensures { (m part : List (Element C)) (at : ℕ) → AllFine C.fine m → AllFine C.fine part → at ≤ width m →
+        copied C.ops (pasted C.ops m at part) at (width part) ≡ part }
+{}
+
+/// The bits before it are as they were.
+pub fn paste_keeps_front<C: Cells>()
+    ensures { (m part : List (Element C)) (at : ℕ) → AllFine C.fine m → at ≤ width m →
+        take_bits C.ops (pasted C.ops m at part) at ≡ take_bits C.ops m at }
+{}
+
+/// And those behind it.
+pub fn paste_keeps_rest<C: Cells>()
+    ensures { (m part : List (Element C)) (at : ℕ) → AllFine C.fine m → AllFine C.fine part → at ≤ width m →
+        drop_bits C.ops (pasted C.ops m at part) (at + width part) ≡ drop_bits C.ops m (at + width part) }
+{}
+
+/// A copy describes the bits of its place.
+pub fn copy_describes<C: Cells, M: Concrete<C>>()
+    ensures { (m : List (Element C)) (at n : ℕ) (ks : List M.Bit) → AllFine C.fine m → Describes M.allows m ks →
+        Describes M.allows (copied C.ops m at n) (take n (drop at ks)) }
+{}
+
+/// After a store the written bits may be what the cell allows, and the others are as they were.
+pub fn store_describes<C: Cells, M: Concrete<C>>()
+    ensures { (m : List (Element C)) (at k : ℕ) (c : C) (ks cs : List M.Bit) → IsSize k → AllFine C.fine m →
+        at + k ≤ width m → length ks ≡ width m → Describes M.allows m ks → M.allows k c cs →
+        Describes M.allows (stored C.ops m at k c) (take at ks ++ (cs ++ drop (at + k) ks)) }
+{}
+
+/// A load gives the content of each described list of bits at each offset.
+pub fn load_gives<C: Cells, M: Concrete<C>>()
+    ensures { (m : List (Element C)) (ats : List ℕ) (at k : ℕ) (ks : List M.Bit) → IsSize k → AllFine C.fine m →
+        AllWithin k (width m) ats → length ks ≡ width m → Describes M.allows m ks → IsAmong ats at →
+        M.gives k (loaded_all C.ops m ats k) (take k (drop at ks)) }
+{}
+
+/// After a weak store the old content is possible.
+pub fn weak_store_keeps_old<C: Cells, M: Concrete<C>>()
+    ensures { (m : List (Element C)) (ats : List ℕ) (k : ℕ) (c : C) (ks : List M.Bit) → IsSize k → AllFine C.fine m →
+        AllWithin k (width m) ats → Describes M.allows m ks → Describes M.allows (weakened C.ops m ats k c) ks }
+{}
+
+/// And the new content at each of the offsets.
+pub fn weak_store_has_new<C: Cells, M: Concrete<C>>()
+    ensures { (m : List (Element C)) (ats : List ℕ) (k : ℕ) (c : C) (ks cs : List M.Bit) (at : ℕ) → IsSize k →
+        AllFine C.fine m → AllWithin k (width m) ats → length ks ≡ width m → Describes M.allows m ks → M.allows k c cs →
+        IsAmong ats at → Describes M.allows (weakened C.ops m ats k c) (take at ks ++ (cs ++ drop (at + k) ks)) }
+{}
