@@ -1,0 +1,6 @@
+pub mod Merging
+pub mod Walking
+pub mod Values
+pub mod Mixes
+pub mod Cells
+pub mod BitParts

@@ -1,0 +1,8 @@
+use Rattle.avalue.proofs.Cells.{joined_first, joined_second}
+use Rattle.avalue.proofs.cell.Cellv.join.Goals as goal
+
+pub returns-clause-first : goal.returns-clause-first
+returns-clause-first c = joined_first c.join_parts.result c.args.self.now c.args.o.now c.join_parts.ensures
+
+pub returns-clause-second : goal.returns-clause-second
+returns-clause-second c = joined_second c.join_parts.result c.args.self.now c.args.o.now c.join_parts.ensures

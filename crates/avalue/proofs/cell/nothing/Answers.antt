@@ -1,0 +1,5 @@
+use Rattle.avalue.proofs.Values.{nothing_is}
+use Rattle.avalue.proofs.cell.nothing.Goals as goal
+
+pub returns : goal.returns
+returns c = nothing_is c.empty.result c.number.result c.number.ensures c.empty.ensures.value

@@ -1,0 +1,4 @@
+pub mod Walks
+pub mod Codes
+pub mod Views
+pub mod Parts

@@ -1,0 +1,42 @@
+//! What stands in lists in ascending order of a key.
+ghost use Rattle.std.specs.Prelude.{◌≡◌, ℕ, Bool};
+
+/// An element of such a list.
+pub(crate) trait Keyed: Sized + Drop + Default {
+    ghost key_of: { Self → ℕ };
+
+    /// What one element holds of two with one key.
+    ghost united: { Self → Self → Self };
+
+    fn key(&self) -> u32
+        ensures { result ≡ key_of self.now };
+
+    /// The same element.
+    fn copy(&self) -> Self
+        ensures { result ≡ self.now };
+
+    fn unite(&self, other: &Self) -> Self
+        ensures { result ≡ united self.now other.now };
+}
+
+/// A comparison of elements with one key.
+pub(crate) trait Compares<X, Y> {
+    /// Whether the second element holds all of the first.
+    ghost lies_in: { X → Y → Bool };
+
+    fn is_in(&self, x: &X, y: &Y) -> bool
+        ensures { result ≡ lies_in x.now y.now };
+}
+
+/// By their keys alone.
+pub(crate) struct ByKey;
+
+impl<X, Y> Compares<X, Y> for ByKey {
+    ghost use Rattle.std.specs.Prelude.{true};
+
+    ghost lies_in = { λ x y. true };
+
+    fn is_in(&self, x: &X, y: &Y) -> bool {
+        true
+    }
+}

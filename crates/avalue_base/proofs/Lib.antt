@@ -1,0 +1,14 @@
+pub mod Lists
+pub mod Sets
+pub mod Words
+pub mod Ordering
+pub mod Joins
+pub mod Meanings
+pub mod Showing
+pub mod Slices
+pub mod Accesses
+pub mod Sounds
+pub mod Forgetting
+pub mod Means
+pub mod Alone
+pub mod Stores

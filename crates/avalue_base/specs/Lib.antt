@@ -1,0 +1,10 @@
+pub mod Lists
+pub mod Numbers
+pub mod Values
+pub mod Order
+pub mod Hues
+pub mod Pieces
+pub mod Meaning
+pub mod Ops
+pub mod Deaths
+pub mod Singles
