@@ -1,0 +1,4 @@
+pub mod Leaves
+pub mod Table
+pub mod Picking
+pub mod Units

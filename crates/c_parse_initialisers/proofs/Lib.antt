@@ -1,0 +1,2 @@
+pub mod Picked
+mod Shorter
