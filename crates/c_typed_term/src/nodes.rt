@@ -99,14 +99,14 @@ fn of_range(range: &Option<TRange>) -> u64
 {
     match range {
         None => 0,
-        Some(range) => with(range.low.nodes(), range.high.nodes()),
+        Some(range) => with(range.low.get().nodes(), range.high.get().nodes()),
     }
 }
 
 fn of_pointers(pointers: &TPointers) -> u64
     ensures { nodes.nodes_of_pointers pointers.now < 2 ^ 62 → result ≡ nodes.nodes_of_pointers pointers.now }
 {
-    with(pointers.first.nodes(), of_range(&pointers.range))
+    with(pointers.first.get().nodes(), of_range(&pointers.range))
 }
 
 fn of_all_pointers(all: &[TPointers]) -> u64
@@ -124,7 +124,7 @@ fn of_relations(all: &[TRelation]) -> u64
 {
     let mut total: u64 = 0;
     for each in all {
-        total = with(total, with_one(each.right.nodes()));
+        total = with(total, with_one(each.right.get().nodes()));
     }
     total
 }
@@ -144,8 +144,8 @@ fn of_predicates(all: &[TPred]) -> u64
 fn of_quantified(quantified: &Quantified) -> u64
     ensures { nodes.nodes_of_quantified quantified.now < 2 ^ 62 → result ≡ nodes.nodes_of_quantified quantified.now }
 {
-    let bounds = with(quantified.high.nodes(), quantified.body.nodes());
-    with_one(with(quantified.low.nodes(), bounds))
+    let bounds = with(quantified.high.get().nodes(), quantified.body.get().nodes());
+    with_one(with(quantified.low.get().nodes(), bounds))
 }
 
 impl TPred {
@@ -156,7 +156,10 @@ impl TPred {
     {
         match self {
             TPred::Constant(_) => 1,
-            TPred::Relations(first, more) => with(first.nodes(), of_relations(more.as_slice())),
+            TPred::Relations(first, more) => with(
+                first.get().nodes(),
+                of_relations(more.as_slice()),
+            ),
             TPred::Not(p) => with_one(p.get().nodes()),
             TPred::All(p, more) => with(
                 p.get().nodes(),
@@ -172,10 +175,10 @@ impl TPred {
                 with(of_predicates(more.as_slice()), more.len() as u64),
             ),
             TPred::Choice(t, p, q) => with_one(with(
-                t.nodes(),
+                t.get().nodes(),
                 with(p.get().nodes(), q.get().nodes()),
             )),
-            TPred::Access(_, pointers) => with_one(of_pointers(pointers)),
+            TPred::Access(_, pointers) => with_one(of_pointers(pointers.get())),
             TPred::Separated(all) => with_one(of_all_pointers(all.as_slice())),
             TPred::Quantified(quantified) => of_quantified(quantified.get()),
         }

@@ -9,7 +9,7 @@ use sqlite_items::{Boxed, Items};
 /// Pointers: a term of pointer type, or, for each number of a range, that many elements behind it.
 #[derive(Drop)]
 pub struct TPointers {
-    pub first: TTerm,
+    pub first: Boxed<TTerm>,
     /// What they point to.
     pub ctype: CType,
     pub range: Option<TRange>,
@@ -18,8 +18,8 @@ pub struct TPointers {
 /// The numbers from `low` to `high`.
 #[derive(Drop)]
 pub struct TRange {
-    pub low: TTerm,
-    pub high: TTerm,
+    pub low: Boxed<TTerm>,
+    pub high: Boxed<TTerm>,
 }
 
 /// What a predicate asks of pointers.
@@ -38,7 +38,7 @@ pub enum AccessSort {
 pub struct TRelation {
     pub relation: Rel,
     pub sort: TermSort,
-    pub right: TTerm,
+    pub right: Boxed<TTerm>,
 }
 
 /// A predicate.
@@ -47,7 +47,7 @@ pub struct TRelation {
 pub enum TPred {
     Constant(bool),
     /// A run of relations, each between neighbouring terms.
-    Relations(TTerm, Items<TRelation>),
+    Relations(Boxed<TTerm>, Items<TRelation>),
     Not(Boxed<TPred>),
     /// `&&` of one level, from the left.
     All(Boxed<TPred>, Items<TPred>),
@@ -57,8 +57,8 @@ pub enum TPred {
     /// `<==>`, from the left.
     Equivalent(Boxed<TPred>, Items<TPred>),
     /// `t ? p : q`.
-    Choice(TTerm, Boxed<TPred>, Boxed<TPred>),
-    Access(AccessSort, TPointers),
+    Choice(Boxed<TTerm>, Boxed<TPred>, Boxed<TPred>),
+    Access(AccessSort, Boxed<TPointers>),
     Separated(Items<TPointers>),
     Quantified(Boxed<Quantified>),
 }
@@ -70,11 +70,11 @@ pub struct Quantified {
     pub for_all: bool,
     /// The variable's type; none where it is `integer`.
     pub kind: Option<IntKind>,
-    pub low: TTerm,
+    pub low: Boxed<TTerm>,
     /// Whether the variable is above `low`, and not only at least `low`.
     pub above: bool,
-    pub high: TTerm,
+    pub high: Boxed<TTerm>,
     /// Whether the variable is below `high`, and not only at most `high`.
     pub below: bool,
-    pub body: TPred,
+    pub body: Boxed<TPred>,
 }

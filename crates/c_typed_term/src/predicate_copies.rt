@@ -8,15 +8,21 @@ use c_types::duplicate::{Duplicate, Mem};
 use sqlite_items::{Boxed, Items};
 use std::alloc::Global;
 
+fn boxed_term(alloc: Global, term: &Boxed<TTerm>) -> Mem<Boxed<TTerm>>
+    ensures { IfOk result (λ copy. copy ≡ term.now) }
+{
+    Boxed::new(alloc, term.get().duplicate(alloc)?)
+}
+
 impl TRange {
     /// An equal value.
     pub fn duplicate(&self, alloc: Global) -> Mem<TRange>
         ensures { IfOk result (λ copy. copy ≡ self.now) }
     {
-        let low = self.low.duplicate(alloc)?;
+        let low = boxed_term(alloc, &self.low)?;
         Ok(TRange {
             low,
-            high: self.high.duplicate(alloc)?,
+            high: boxed_term(alloc, &self.high)?,
         })
     }
 }
@@ -36,13 +42,19 @@ impl TPointers {
         ensures { IfOk result (λ copy. copy ≡ self.now) }
     {
         let ctype = self.ctype.duplicate(alloc)?;
-        let first = self.first.duplicate(alloc)?;
+        let first = boxed_term(alloc, &self.first)?;
         Ok(TPointers {
             first,
             ctype,
             range: optional_range(alloc, &self.range)?,
         })
     }
+}
+
+fn boxed_pointers(alloc: Global, pointers: &Boxed<TPointers>) -> Mem<Boxed<TPointers>>
+    ensures { IfOk result (λ copy. copy ≡ pointers.now) }
+{
+    Boxed::new(alloc, pointers.get().duplicate(alloc)?)
 }
 
 impl Duplicate for TPointers {
@@ -60,7 +72,7 @@ impl TRelation {
         Ok(TRelation {
             relation: self.relation,
             sort,
-            right: self.right.duplicate(alloc)?,
+            right: boxed_term(alloc, &self.right)?,
         })
     }
 }
@@ -106,7 +118,7 @@ impl TPred {
             TPred::Constant(truth) => Ok(TPred::Constant(*truth)),
             TPred::Relations(first, more) => {
                 let relations = more.duplicate(alloc)?;
-                Ok(TPred::Relations(first.duplicate(alloc)?, relations))
+                Ok(TPred::Relations(boxed_term(alloc, first)?, relations))
             }
             TPred::Not(p) => Ok(TPred::Not(boxed_predicate(alloc, p)?)),
             TPred::All(p, more) => Ok(TPred::All(
@@ -128,9 +140,12 @@ impl TPred {
             TPred::Choice(t, p, q) => {
                 let then = boxed_predicate(alloc, p)?;
                 let otherwise = boxed_predicate(alloc, q)?;
-                Ok(TPred::Choice(t.duplicate(alloc)?, then, otherwise))
+                Ok(TPred::Choice(boxed_term(alloc, t)?, then, otherwise))
             }
-            TPred::Access(sort, pointers) => Ok(TPred::Access(*sort, pointers.duplicate(alloc)?)),
+            TPred::Access(sort, pointers) => Ok(TPred::Access(
+                *sort,
+                boxed_pointers(alloc, pointers)?,
+            )),
             TPred::Separated(all) => Ok(TPred::Separated(all.duplicate(alloc)?)),
             TPred::Quantified(quantified) => Ok(TPred::Quantified(boxed_quantified(
                 alloc, quantified,
@@ -145,8 +160,8 @@ impl Quantified {
     pub fn duplicate(&self, alloc: Global) -> Mem<Quantified>
         ensures { IfOk result (λ copy. copy ≡ self.now) }
     {
-        let low = self.low.duplicate(alloc)?;
-        let high = self.high.duplicate(alloc)?;
+        let low = boxed_term(alloc, &self.low)?;
+        let high = boxed_term(alloc, &self.high)?;
         Ok(Quantified {
             for_all: self.for_all,
             kind: self.kind,
@@ -154,7 +169,7 @@ impl Quantified {
             above: self.above,
             high,
             below: self.below,
-            body: self.body.duplicate(alloc)?,
+            body: boxed_predicate(alloc, &self.body)?,
         })
     }
 }

@@ -48,12 +48,14 @@ pub fn condition_at<'a>(
     let Some((expr, behind)) = expression_at(alloc, inner, budget)? else {
         return Ok(None);
     };
-    let Some(test) = test_of(alloc, &expr, variables)? else {
-        return Ok(None);
-    };
-    match behind_punctuator(behind, Punctuator::CloseParenthesis) {
+    let read = test_of(alloc, &expr, variables);
+    drop(expr);
+    match read? {
         None => Ok(None),
-        Some(rest) => Ok(Some((test, rest))),
+        Some(test) => match behind_punctuator(behind, Punctuator::CloseParenthesis) {
+            None => Ok(None),
+            Some(rest) => Ok(Some((test, rest))),
+        },
     }
 }
 
@@ -73,11 +75,13 @@ pub fn value_at<'a>(
     let Some((expr, behind)) = expression_at(alloc, tokens, budget.saturating_sub(own))? else {
         return Ok(None);
     };
-    let Some(sum) = sum_of(alloc, &expr, variables)? else {
-        return Ok(None);
-    };
-    match behind_punctuator(behind, Punctuator::Semicolon) {
+    let read = sum_of(alloc, &expr, variables);
+    drop(expr);
+    match read? {
         None => Ok(None),
-        Some(rest) => Ok(Some((sum, rest))),
+        Some(sum) => match behind_punctuator(behind, Punctuator::Semicolon) {
+            None => Ok(None),
+            Some(rest) => Ok(Some((sum, rest))),
+        },
     }
 }
