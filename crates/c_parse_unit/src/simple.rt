@@ -68,6 +68,67 @@ pub fn break_rule<'a>(
     }
 }
 
+/// `continue ;`
+pub fn continue_rule<'a>(
+    depth: u32,
+    names: &mut TypeNames,
+    tokens: &'a [Token],
+) -> Result<Option<(UnitStatement, &'a [Token])>, AllocError>
+    ensures found { ReadsRule statement_tree depth rule.Continue names.old.names names.new.names tokens.now result }
+    ensures shorter { Shortens tokens.now result }
+    ensures kept { kept names.new ≡ kept names.old }
+{
+    let Some(span) = place_at(tokens) else {
+        return Ok(None);
+    };
+    let Some(behind) = behind_keyword(tokens, Keyword::Continue) else {
+        return Ok(None);
+    };
+    match expect_punctuator(names, behind, Punctuator::Semicolon) {
+        None => Ok(None),
+        Some(rest) => Ok(Some((Statement::Continue { span }, rest))),
+    }
+}
+
+/// `return [ expression ] ;`
+pub fn return_rule<'a>(
+    alloc: Global,
+    depth: u32,
+    names: &mut TypeNames,
+    tokens: &'a [Token],
+) -> Result<Option<(UnitStatement, &'a [Token])>, AllocError>
+    requires depth { depth < 999999 }
+    ensures found { ReadsRule statement_tree depth rule.Return names.old.names names.new.names tokens.now result }
+    ensures shorter { Shortens tokens.now result }
+    ensures kept { kept names.new ≡ kept names.old }
+{
+    let Some(span) = place_at(tokens) else {
+        return Ok(None);
+    };
+    let Some(inside) = behind_keyword(tokens, Keyword::Return) else {
+        return Ok(None);
+    };
+    if on_punctuator(inside, Punctuator::Semicolon) {
+        return match expect_punctuator(names, inside, Punctuator::Semicolon) {
+            None => Ok(None),
+            Some(rest) => Ok(Some((Statement::Return { span, value: None }, rest))),
+        };
+    }
+    let Some((value, behind)) = expr_at(alloc, depth, names, 0, inside)? else {
+        return Ok(None);
+    };
+    match expect_punctuator(names, behind, Punctuator::Semicolon) {
+        None => Ok(None),
+        Some(rest) => Ok(Some((
+            Statement::Return {
+                span,
+                value: Some(value),
+            },
+            rest,
+        ))),
+    }
+}
+
 /// `attribute ;`
 pub fn attribute_rule<'a>(
     alloc: Global,
