@@ -7,20 +7,20 @@ use Rattle.c_memory.specs.declared.scalar.Scalar.TheVariants as scalar
 use Rattle.c_types.specs.Types as types
 use Rattle.c_types.specs.Types.{CType}
 use Rattle.c_types.specs.Views.{type_of}
+use Rattle.c_types.specs.Steps.{stepped}
 use Rattle.c_typed_expr.specs.Trees as plain
 use Rattle.c_typed_expr.specs.Trees.{Lvalue, Expr, Exprs, NoExpr, NextExpr}
 use Rattle.c_typed_expr.specs.declared.expr.TExpr.{TExpr, fold-TExpr}
 use Rattle.c_typed_expr.specs.declared.expr.TExpr.TheOpen.{TExpr-F, TRoot-F, TStep-F, TCompound-F, TLval-F, TOperand-F}
+use Rattle.c_typed_expr.specs.declared.expr.TRoot.{TRoot, fold-TRoot}
+use Rattle.c_typed_expr.specs.declared.expr.TStep.{TStep, fold-TStep}
+use Rattle.c_typed_expr.specs.declared.expr.TCompound.{TCompound, fold-TCompound}
 use Rattle.c_typed_expr.specs.declared.expr.TLval.{TLval, fold-TLval}
+use Rattle.c_typed_expr.specs.declared.expr.TOperand.{TOperand, fold-TOperand}
 
 abbrev pub listed : List Expr → Exprs
 listed [] = NoExpr
 listed (e ∷ more) = NextExpr e (listed more)
-
--- steps one after the other
-abbrev pub stepped : {A : Type 0} → List (A → A) → A → A
-stepped [] a = a
-stepped (f ∷ more) a = stepped more (f a)
 
 -- a load by the type of the lvalue
 abbrev pub load_of : CType → Lvalue → Expr
@@ -116,3 +116,17 @@ expr_of = fold-TExpr Expr Lvalue (Lvalue → Lvalue) Expr Lvalue (Expr → Expr)
 
 abbrev pub lvalue_of : TLval → Lvalue
 lvalue_of = fold-TLval Expr Lvalue (Lvalue → Lvalue) Expr Lvalue (Expr → Expr) expr_step root_step step_step compound_step lvalue_step operand_step
+
+abbrev pub root_of : TRoot → Lvalue
+root_of = fold-TRoot Expr Lvalue (Lvalue → Lvalue) Expr Lvalue (Expr → Expr) expr_step root_step step_step compound_step lvalue_step operand_step
+
+-- a step takes a place to the next one
+abbrev pub step_of : TStep → Lvalue → Lvalue
+step_of = fold-TStep Expr Lvalue (Lvalue → Lvalue) Expr Lvalue (Expr → Expr) expr_step root_step step_step compound_step lvalue_step operand_step
+
+-- an operator with its right operand takes what stands on its left
+abbrev pub operand_of : TOperand → Expr → Expr
+operand_of = fold-TOperand Expr Lvalue (Lvalue → Lvalue) Expr Lvalue (Expr → Expr) expr_step root_step step_step compound_step lvalue_step operand_step
+
+abbrev pub compound_of : TCompound → Expr
+compound_of = fold-TCompound Expr Lvalue (Lvalue → Lvalue) Expr Lvalue (Expr → Expr) expr_step root_step step_step compound_step lvalue_step operand_step

@@ -2,19 +2,9 @@
 ghost use Rattle.std.specs.Prelude.{◌≡◌, IfOk};
 
 use crate::expr::{TCompound, TExpr, TLval, TOperand, TRoot, TStep};
-use c_types::ctype::CType;
 use c_types::duplicate::{Duplicate, Mem};
 use sqlite_items::{Boxed, Items};
 use std::alloc::Global;
-
-fn optional_type(alloc: Global, ctype: &Option<CType>) -> Mem<Option<CType>>
-    ensures { IfOk result (λ copy. copy ≡ ctype.now) }
-{
-    match ctype {
-        None => Ok(None),
-        Some(ctype) => Ok(Some(ctype.duplicate(alloc)?)),
-    }
-}
 
 #[cycle(copying)]
 fn boxed_expr(alloc: Global, tree: &Boxed<TExpr>) -> Mem<Boxed<TExpr>>
@@ -191,7 +181,7 @@ impl TStep {
             )),
             TStep::Call(site, arguments, t, pointed) => {
                 let result = t.duplicate(alloc)?;
-                let function = optional_type(alloc, pointed)?;
+                let function = pointed.duplicate(alloc)?;
                 Ok(TStep::Call(
                     *site,
                     copied_exprs(alloc, arguments.as_slice())?,
@@ -262,5 +252,11 @@ impl TLval {
 impl Duplicate for TExpr {
     fn duplicate(&self, alloc: Global) -> Mem<TExpr> {
         TExpr::duplicate(self, alloc)
+    }
+}
+
+impl Duplicate for TLval {
+    fn duplicate(&self, alloc: Global) -> Mem<TLval> {
+        TLval::duplicate(self, alloc)
     }
 }

@@ -3,6 +3,7 @@ ghost use Rattle.std.specs.Prelude.{◌≡◌, ◌<◌, ◌^◌, suc, ◌+◌};
 ghost use Rattle.c_typed_expr.specs.Nodes.{callees, nodes, nodes_of_root, nodes_of_step, nodes_of_compound, nodes_of_lvalue, nodes_of_all, nodes_of_steps, nodes_of_operands};
 
 use crate::expr::{TCompound, TExpr, TLval, TOperand, TRoot, TStep};
+use c_types::count::{with, with_one};
 use c_types::ctype::CType;
 
 /// What tells how many functions a call by a pointer to a function of a type may reach.
@@ -16,18 +17,6 @@ pub trait Callees {
     /// How many; at 2^62 and above it is no promise.
     fn count(&self, t: &CType) -> u64
         ensures { counted self.now (type_of t.now) < 2 ^ 62 → result ≡ counted self.now (type_of t.now) };
-}
-
-fn with_one(below: u64) -> u64
-    ensures { below < 2 ^ 62 → result ≡ suc below }
-{
-    below.saturating_add(1)
-}
-
-fn with(a: u64, b: u64) -> u64
-    ensures { a + b < 2 ^ 62 → result ≡ a + b }
-{
-    a.saturating_add(b)
 }
 
 fn of_callees<C: Callees>(table: &C, pointed: &Option<CType>) -> u64

@@ -7,21 +7,6 @@ use c_types::duplicate::{Duplicate, Mem};
 use sqlite_items::{Boxed, Items};
 use std::alloc::Global;
 
-fn boxed<T: Duplicate>(alloc: Global, value: &Boxed<T>) -> Mem<Boxed<T>>
-    ensures { IfOk result (λ copy. copy ≡ value.now) }
-{
-    Boxed::new(alloc, value.get().duplicate(alloc)?)
-}
-
-fn optional<T: Duplicate>(alloc: Global, value: &Option<T>) -> Mem<Option<T>>
-    ensures { IfOk result (λ copy. copy ≡ value.now) }
-{
-    match value {
-        None => Ok(None),
-        Some(value) => Ok(Some(value.duplicate(alloc)?)),
-    }
-}
-
 impl TInitItem {
     /// An equal value.
     pub fn duplicate(&self, alloc: Global) -> Mem<TInitItem>
@@ -29,8 +14,8 @@ impl TInitItem {
     {
         match self {
             TInitItem::Value(place, t, e) => {
-                let copy = Boxed::new(alloc, place.get().duplicate(alloc)?)?;
-                let value = boxed(alloc, e)?;
+                let copy = place.duplicate(alloc)?;
+                let value = e.duplicate(alloc)?;
                 Ok(TInitItem::Value(copy, t.duplicate(alloc)?, value))
             }
             TInitItem::Text(image) => Ok(TInitItem::Text(image.duplicate(alloc)?)),
@@ -159,7 +144,7 @@ impl<E: Duplicate, I: Duplicate, P: Duplicate> TStmt<E, I, P> {
             TStmt::Goto(id, name) => Ok(TStmt::Goto(*id, name.duplicate(alloc)?)),
             TStmt::Break(id) => Ok(TStmt::Break(*id)),
             TStmt::Continue(id) => Ok(TStmt::Continue(*id)),
-            TStmt::Return(id, value) => Ok(TStmt::Return(*id, optional(alloc, value)?)),
+            TStmt::Return(id, value) => Ok(TStmt::Return(*id, value.duplicate(alloc)?)),
             TStmt::Empty(id) => Ok(TStmt::Empty(*id)),
             TStmt::Assert(id, predicate) => Ok(TStmt::Assert(*id, predicate.duplicate(alloc)?)),
         }
@@ -201,10 +186,10 @@ impl<E: Duplicate, I: Duplicate, P: Duplicate> TLoop<E, I, P> {
     pub fn duplicate(&self, alloc: Global) -> Mem<TLoop<E, I, P>>
         ensures { IfOk result (λ copy. copy ≡ self.now) }
     {
-        let first = optional(alloc, &self.first)?;
+        let first = self.first.duplicate(alloc)?;
         let invariants = self.invariants.duplicate(alloc)?;
-        let cond = optional(alloc, &self.cond)?;
-        let next = optional(alloc, &self.next)?;
+        let cond = self.cond.duplicate(alloc)?;
+        let next = self.next.duplicate(alloc)?;
         Ok(TLoop {
             sort: self.sort,
             first,

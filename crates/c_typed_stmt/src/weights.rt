@@ -3,6 +3,7 @@ ghost use Rattle.std.specs.Prelude.{◌≡◌, ◌<◌, ◌^◌, suc, ◌+◌, m
 ghost use Rattle.c_typed_stmt.specs.Weights.{counted, of_numbered, weight_of_stmt, weight_of_arm, weight_of_block, weight_of_loop, weight_of_stmts, weight_of_arms};
 
 use crate::stmt::{Numbered, TArm, TBlock, TLoop, TStmt};
+use c_types::count::{with, with_one};
 
 /// What counts the nodes of expressions, initialisers and predicates. At 2^62 and above a count is no promise.
 pub trait Counter<E, I, P> {
@@ -22,18 +23,6 @@ pub trait Counter<E, I, P> {
 
     fn pred(&self, p: &P) -> u64
         ensures { of_pred self.now p.now < 2 ^ 62 → result ≡ of_pred self.now p.now };
-}
-
-fn with_one(below: u64) -> u64
-    ensures { below < 2 ^ 62 → result ≡ suc below }
-{
-    below.saturating_add(1)
-}
-
-fn with(a: u64, b: u64) -> u64
-    ensures { a + b < 2 ^ 62 → result ≡ a + b }
-{
-    a.saturating_add(b)
 }
 
 fn of_optional<E, I, P, W: Counter<E, I, P>>(counter: &W, value: &Option<E>) -> u64

@@ -3,12 +3,17 @@ use Rattle.std.specs.Prelude.{ℕ, List, [], ◌∷◌, map, Bool, true, false, 
 use Rattle.c_base.specs.declared.operators.BinOp.TheVariants.{Add}
 use Rattle.c_types.specs.Types as types
 use Rattle.c_types.specs.Views.{type_of}
+use Rattle.c_types.specs.Steps.{stepped}
 use Rattle.c_typed_term.specs.Terms as plain
 use Rattle.c_typed_term.specs.Terms.{Sort, Term, Place, PointersTo, Predicate}
 use Rattle.c_typed_term.specs.declared.term.TermSort.{TermSort}
 use Rattle.c_typed_term.specs.declared.term.TermSort.TheVariants as sort
 use Rattle.c_typed_term.specs.declared.term.TTerm.{TTerm, fold-TTerm}
 use Rattle.c_typed_term.specs.declared.term.TTerm.TheOpen.{TTerm-F, TTermRoot-F, TTermStep-F, TTermOperand-F, TTermPlace-F}
+use Rattle.c_typed_term.specs.declared.term.TTermRoot.{TTermRoot, fold-TTermRoot}
+use Rattle.c_typed_term.specs.declared.term.TTermStep.{TTermStep, fold-TTermStep}
+use Rattle.c_typed_term.specs.declared.term.TTermOperand.{TTermOperand, fold-TTermOperand}
+use Rattle.c_typed_term.specs.declared.term.TTermPlace.{TTermPlace, fold-TTermPlace}
 use Rattle.c_typed_term.specs.declared.predicate.TRange.{TRange}
 use Rattle.c_typed_term.specs.declared.predicate.TPointers.{TPointers}
 use Rattle.c_typed_term.specs.declared.predicate.TRelation.{TRelation}
@@ -23,11 +28,6 @@ sort_of sort.Numbers = plain.Numbers
 sort_of (sort.Pointer to) = plain.Pointer (type_of to)
 sort_of (sort.ToPointer to) = plain.ToPointer (type_of to)
 sort_of (sort.Pointers to) = plain.Pointers (type_of to)
-
--- steps one after the other
-abbrev pub stepped : {A : Type 0} → List (A → A) → A → A
-stepped [] a = a
-stepped (f ∷ more) a = stepped more (f a)
 
 abbrev pub term_step : TTerm-F Term Place (Place → Place) (Term → Term) Place → Term
 term_step (TTerm-F.Number n) = plain.Number (pos n)
@@ -63,6 +63,20 @@ place_step p = stepped p.steps p.root
 
 abbrev pub term_of : TTerm → Term
 term_of = fold-TTerm Term Place (Place → Place) (Term → Term) Place term_step root_step step_step operand_step place_step
+
+abbrev pub root_of : TTermRoot → Place
+root_of = fold-TTermRoot Term Place (Place → Place) (Term → Term) Place term_step root_step step_step operand_step place_step
+
+-- a step takes a place to the next one
+abbrev pub step_of : TTermStep → Place → Place
+step_of = fold-TTermStep Term Place (Place → Place) (Term → Term) Place term_step root_step step_step operand_step place_step
+
+-- an operator with its right operand takes what stands on its left
+abbrev pub operand_of : TTermOperand → Term → Term
+operand_of = fold-TTermOperand Term Place (Place → Place) (Term → Term) Place term_step root_step step_step operand_step place_step
+
+abbrev pub place_of : TTermPlace → Place
+place_of = fold-TTermPlace Term Place (Place → Place) (Term → Term) Place term_step root_step step_step operand_step place_step
 
 abbrev pub range_of : TRange → Term × Term
 range_of r = (term_of r.low, term_of r.high)

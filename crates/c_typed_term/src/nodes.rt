@@ -5,19 +5,8 @@ ghost use Rattle.c_typed_term.specs.Nodes as nodes;
 use crate::contract::{TAssigns, TBehaviour, TContract};
 use crate::predicate::{Quantified, TPointers, TPred, TRange, TRelation};
 use crate::term::{TTerm, TTermOperand, TTermPlace, TTermRoot, TTermStep};
+use c_types::count::{with, with_one};
 use sqlite_items::Items;
-
-fn with_one(below: u64) -> u64
-    ensures { below < 2 ^ 62 → result ≡ suc below }
-{
-    below.saturating_add(1)
-}
-
-fn with(a: u64, b: u64) -> u64
-    ensures { a + b < 2 ^ 62 → result ≡ a + b }
-{
-    a.saturating_add(b)
-}
 
 #[cycle(counting_terms)]
 fn of_operands(all: &[TTermOperand]) -> u64

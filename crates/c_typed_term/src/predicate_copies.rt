@@ -3,36 +3,26 @@ ghost use Rattle.std.specs.Prelude.{◌≡◌, IfOk};
 
 use crate::contract::{TAssigns, TBehaviour, TContract};
 use crate::predicate::{Quantified, TPointers, TPred, TRange, TRelation};
-use crate::term::TTerm;
 use c_types::duplicate::{Duplicate, Mem};
 use sqlite_items::{Boxed, Items};
 use std::alloc::Global;
-
-fn boxed_term(alloc: Global, term: &Boxed<TTerm>) -> Mem<Boxed<TTerm>>
-    ensures { IfOk result (λ copy. copy ≡ term.now) }
-{
-    Boxed::new(alloc, term.get().duplicate(alloc)?)
-}
 
 impl TRange {
     /// An equal value.
     pub fn duplicate(&self, alloc: Global) -> Mem<TRange>
         ensures { IfOk result (λ copy. copy ≡ self.now) }
     {
-        let low = boxed_term(alloc, &self.low)?;
+        let low = self.low.duplicate(alloc)?;
         Ok(TRange {
             low,
-            high: boxed_term(alloc, &self.high)?,
+            high: self.high.duplicate(alloc)?,
         })
     }
 }
 
-fn optional_range(alloc: Global, range: &Option<TRange>) -> Mem<Option<TRange>>
-    ensures { IfOk result (λ copy. copy ≡ range.now) }
-{
-    match range {
-        None => Ok(None),
-        Some(range) => Ok(Some(range.duplicate(alloc)?)),
+impl Duplicate for TRange {
+    fn duplicate(&self, alloc: Global) -> Mem<TRange> {
+        TRange::duplicate(self, alloc)
     }
 }
 
@@ -42,19 +32,13 @@ impl TPointers {
         ensures { IfOk result (λ copy. copy ≡ self.now) }
     {
         let ctype = self.ctype.duplicate(alloc)?;
-        let first = boxed_term(alloc, &self.first)?;
+        let first = self.first.duplicate(alloc)?;
         Ok(TPointers {
             first,
             ctype,
-            range: optional_range(alloc, &self.range)?,
+            range: self.range.duplicate(alloc)?,
         })
     }
-}
-
-fn boxed_pointers(alloc: Global, pointers: &Boxed<TPointers>) -> Mem<Boxed<TPointers>>
-    ensures { IfOk result (λ copy. copy ≡ pointers.now) }
-{
-    Boxed::new(alloc, pointers.get().duplicate(alloc)?)
 }
 
 impl Duplicate for TPointers {
@@ -72,7 +56,7 @@ impl TRelation {
         Ok(TRelation {
             relation: self.relation,
             sort,
-            right: boxed_term(alloc, &self.right)?,
+            right: self.right.duplicate(alloc)?,
         })
     }
 }
@@ -118,7 +102,7 @@ impl TPred {
             TPred::Constant(truth) => Ok(TPred::Constant(*truth)),
             TPred::Relations(first, more) => {
                 let relations = more.duplicate(alloc)?;
-                Ok(TPred::Relations(boxed_term(alloc, first)?, relations))
+                Ok(TPred::Relations(first.duplicate(alloc)?, relations))
             }
             TPred::Not(p) => Ok(TPred::Not(boxed_predicate(alloc, p)?)),
             TPred::All(p, more) => Ok(TPred::All(
@@ -140,12 +124,9 @@ impl TPred {
             TPred::Choice(t, p, q) => {
                 let then = boxed_predicate(alloc, p)?;
                 let otherwise = boxed_predicate(alloc, q)?;
-                Ok(TPred::Choice(boxed_term(alloc, t)?, then, otherwise))
+                Ok(TPred::Choice(t.duplicate(alloc)?, then, otherwise))
             }
-            TPred::Access(sort, pointers) => Ok(TPred::Access(
-                *sort,
-                boxed_pointers(alloc, pointers)?,
-            )),
+            TPred::Access(sort, pointers) => Ok(TPred::Access(*sort, pointers.duplicate(alloc)?)),
             TPred::Separated(all) => Ok(TPred::Separated(all.duplicate(alloc)?)),
             TPred::Quantified(quantified) => Ok(TPred::Quantified(boxed_quantified(
                 alloc, quantified,
@@ -160,8 +141,8 @@ impl Quantified {
     pub fn duplicate(&self, alloc: Global) -> Mem<Quantified>
         ensures { IfOk result (λ copy. copy ≡ self.now) }
     {
-        let low = boxed_term(alloc, &self.low)?;
-        let high = boxed_term(alloc, &self.high)?;
+        let low = self.low.duplicate(alloc)?;
+        let high = self.high.duplicate(alloc)?;
         Ok(Quantified {
             for_all: self.for_all,
             kind: self.kind,
@@ -180,15 +161,6 @@ impl Duplicate for TPred {
     }
 }
 
-fn optional_terms(alloc: Global, terms: &Option<Items<TTerm>>) -> Mem<Option<Items<TTerm>>>
-    ensures { IfOk result (λ copy. copy ≡ terms.now) }
-{
-    match terms {
-        None => Ok(None),
-        Some(terms) => Ok(Some(terms.duplicate(alloc)?)),
-    }
-}
-
 impl TAssigns {
     /// An equal value.
     pub fn duplicate(&self, alloc: Global) -> Mem<TAssigns>
@@ -198,7 +170,7 @@ impl TAssigns {
         Ok(TAssigns {
             result: self.result,
             locations,
-            sources: optional_terms(alloc, &self.sources)?,
+            sources: self.sources.duplicate(alloc)?,
         })
     }
 }

@@ -3,3 +3,4 @@ pub mod Views
 pub mod Sizes
 pub mod Agreeing
 pub mod Compatible
+pub mod Steps

@@ -1,9 +1,9 @@
-//! Copies of lists.
+//! Copies of boxes, options and lists.
 ghost use Rattle.std.specs.Prelude.{◌≡◌, IfOk};
 
 use c_base::name::Name;
 use c_base::number::BaseId;
-use sqlite_items::Items;
+use sqlite_items::{Boxed, Items};
 use std::alloc::{AllocError, Global};
 
 /// What a call gives that may run out of memory.
@@ -25,6 +25,21 @@ impl Duplicate for Name {
 impl Duplicate for BaseId {
     fn duplicate(&self, _alloc: Global) -> Mem<BaseId> {
         Ok(*self)
+    }
+}
+
+impl<T: Duplicate> Duplicate for Boxed<T> {
+    fn duplicate(&self, alloc: Global) -> Mem<Boxed<T>> {
+        Boxed::new(alloc, self.get().duplicate(alloc)?)
+    }
+}
+
+impl<T: Duplicate> Duplicate for Option<T> {
+    fn duplicate(&self, alloc: Global) -> Mem<Option<T>> {
+        match self {
+            None => Ok(None),
+            Some(value) => Ok(Some(value.duplicate(alloc)?)),
+        }
     }
 }
 

@@ -3,6 +3,7 @@
 
 mod compatible;
 mod copies;
+pub mod count;
 pub mod ctype;
 pub mod duplicate;
 pub mod sizes;
