@@ -1,0 +1,3 @@
+pub mod Ranges
+pub mod Images
+pub mod Passing

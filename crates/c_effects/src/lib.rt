@@ -1,0 +1,2 @@
+//! What assignments of structs, initialisers and calls make of memories, as functions (`specs/`).
+#![tactic(auto)]
