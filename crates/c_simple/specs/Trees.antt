@@ -7,6 +7,7 @@ use Rattle.c_base.specs.declared.operators.UnOp.{UnOp}
 use Rattle.c_types.specs.Types.{CType}
 use Rattle.c_typed_stmt.specs.declared.init.ImageItem.{ImageItem}
 use Rattle.c_typed_term.specs.Terms.{Predicate}
+use Rattle.c_program.specs.Syntax.{Program}
 
 mutual
   pub data Lvalue : Type 0 where
@@ -65,3 +66,7 @@ pub record Function : Type 0 where
   pub base : ℕ
   pub places : List Place
   pub edges : List Edge
+
+pub record Program' : Type 0 where
+  pub program : Program
+  pub functions : List Function

@@ -17,6 +17,8 @@ use Rattle.c_simple.specs.declared.edge.HeldSlot.{HeldSlot}
 use Rattle.c_simple.specs.declared.edge.Scope.{Scope}
 use Rattle.c_simple.specs.declared.edge.PlaceInfo.{PlaceInfo}
 use Rattle.c_simple.specs.declared.edge.SimpleFunction.{SimpleFunction}
+use Rattle.c_simple.specs.declared.program.SimpleProgram.{SimpleProgram}
+use Rattle.c_program.specs.Views.{program_of as typed_program_of}
 
 abbrev pub expr_step : SExpr-F Expr Lvalue → Expr
 expr_step (SExpr-F.Const n kind) = plain.Number kind n
@@ -74,3 +76,6 @@ place_of p = record { at = p.at.0; arrival = p.arrival; sites = map site_of p.si
 
 abbrev pub function_of : SimpleFunction → plain.Function
 function_of f = record { base = f.base.0; places = map place_of f.places; edges = map edge_of f.edges }
+
+abbrev pub program_of : SimpleProgram → plain.Program'
+program_of p = record { program = typed_program_of p.program; functions = map function_of p.functions }

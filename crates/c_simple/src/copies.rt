@@ -81,15 +81,6 @@ impl Duplicate for SExpr {
     }
 }
 
-fn optional_expr(alloc: Global, value: &Option<SExpr>) -> Mem<Option<SExpr>>
-    ensures { IfOk result (λ copy. copy ≡ value.now) }
-{
-    match value {
-        None => Ok(None),
-        Some(value) => Ok(Some(value.duplicate(alloc)?)),
-    }
-}
-
 fn copied_set(alloc: Global, place: &SLval, e: &SExpr) -> Mem<Act>
     ensures { IfOk result (λ copy. copy ≡ act.Set place.now e.now) }
 {
@@ -123,7 +114,7 @@ impl Act {
                 let copies = arguments.duplicate(alloc)?;
                 Ok(Act::Call(*site, function.duplicate(alloc)?, copies, *slot))
             }
-            Act::Return(value, slot) => Ok(Act::Return(optional_expr(alloc, value)?, *slot)),
+            Act::Return(value, slot) => Ok(Act::Return(value.duplicate(alloc)?, *slot)),
             Act::Skip => Ok(Act::Skip),
         }
     }

@@ -1,0 +1,17 @@
+pub mod Syntax
+pub mod Valid
+pub mod Views
+pub mod Names
+pub mod StaticCalls
+pub mod Weights
+pub mod Typing
+pub mod TermTyping
+pub mod Flow
+pub mod Named
+pub mod Sized
+pub mod Typed
+pub mod Imaged
+pub mod Marked
+pub mod Weighed
+pub mod Checked
+pub mod Laws
