@@ -1,0 +1,7 @@
+mod Leading
+mod Asking
+mod Jumping
+mod Runs
+mod Determinism
+mod Zeros
+mod Going
