@@ -4,16 +4,21 @@ use Rattle.cell_laws.specs.Elements.{Element, width, AllFine}
 use Rattle.cell_laws.specs.Cells.{Ops}
 use Rattle.cell_laws.specs.Laws.{FineLaws, OrderLaws, JoinLaws, MergeLaws, PartLaws}
 use Rattle.cell_laws.specs.Join.{joined}
-use Rattle.cell_laws.proofs.Joins.{AreFine, joined_above}
+use Rattle.cell_laws.proofs.Joins.{joined_above}
 use Rattle.run_joins.specs.Joining.{AreMaps}
 use Rattle.cell_laws.specs.Access.{take_bits, drop_bits, copied, pasted, put, repeated, stored, glued, loaded, IsSize}
-use Rattle.cell_laws.proofs.Accesses.{repeated_blank, repeated_whole, repeated_one, width-repeated, width-put, width-stored, fine_repeated, fine_stored}
+use Rattle.cell_laws.proofs.Accesses.{repeated_blank, repeated_whole, repeated_one, width-repeated, width-put, width-stored, fine_put, fine_repeated, fine_stored}
 use Rattle.cell_laws.proofs.Parts.{width-copied, width-pasted, fine_copied, fine_pasted}
 use Rattle.cell_runs.specs.declared.runs.Run.{Run}
 use Rattle.cell_runs.specs.Runs.{elements, AllSome, AreApart, Extends}
 use Rattle.cell_runs.specs.Parts.{Takes}
 use Rattle.cell_runs.proofs.Pushing.{extends-both, extends-along}
 use Rattle.cell_runs.proofs.Taking.{elements-none}
+use Rattle.run_places.specs.Spots.{AreRuns}
+use Rattle.run_slots.specs.Slots.{slots_weakened}
+use Rattle.run_slots.proofs.Widths.{weakened_width, weakened_fine}
+use Rattle.run_orders.specs.Deaths.{left_all, LeftLaws}
+use Rattle.run_orders.proofs.Leaving.{left_width, left_are_fine}
 use Rattle.offmap.specs.Maps.{IsMap}
 
 -- runs that were built from none and hold these elements
@@ -153,3 +158,52 @@ module _ {C H : Type 0} (o : Ops C H) (Fine : ℕ → C → Type 0) (merge : ℕ
   join_map wa wb ps qs none runs a b s t w z x =
       let u = joined_above o Fine merge n l j m a b (record { first = s.fine; second = t.fine }) w in
       built_map Fine runs (joined o merge a b) wb (join_built wa wb ps qs none runs a b s t z x) u.fine (t.wide ∙ sym u.wide) t.small
+
+-- runs that are looked at or changed one by one
+module _ {C : Type 0} (Fine : ℕ → C → Type 0) where
+  pub seen_runs : (bits : ℕ) (rs slice : List (Run C)) → IsMap Fine bits rs → slice ≡ rs → AreRuns Fine slice
+  seen_runs bits rs slice i e =
+      let w = i.wide in
+      let s = i.small in
+      subst (AreRuns Fine) (sym e) (record { some = i.some; fine = i.fine; small = omega arith })
+
+module _ {C H : Type 0} (o : Ops C H) (Fine : ℕ → C → Type 0) (left : C → C) (l : LeftLaws o Fine left) where
+  pub left_built : (slice none runs : List (Run C)) (m : List (Element C)) → elements slice ≡ m → none ≡ [] → Extends none runs (left_all o left (elements slice)) → IsBuilt runs (left_all o left m)
+  left_built slice none runs m v z x = built none runs (left_all o left m) z (extends-along none runs _ _ (ap (left_all o left) v) x)
+
+  pub left_map : (bits : ℕ) (slice none runs : List (Run C)) (m : List (Element C)) → IsSeen Fine bits slice m → none ≡ [] → Extends none runs (left_all o left (elements slice)) → IsMap Fine bits runs
+  left_map bits slice none runs m s z x =
+      built_map Fine runs (left_all o left m) bits (left_built slice none runs m s.view z x) (left_are_fine o Fine left l m s.fine) (s.wide ∙ sym (left_width o left m)) s.small
+
+-- what is put into slots, and the map with it
+module _ {C H : Type 0} (o : Ops C H) (Fine : ℕ → C → Type 0) (q : PartLaws o Fine) where
+  pub put_view : (none runs slice : List (Run C)) (k : ℕ) (c : C) → none ≡ [] → slice ≡ runs → Extends none runs (repeated o k 1 c) → elements slice ≡ put o k c
+  put_view none runs slice k c z e x = ap elements e ∙ (built none runs (repeated o k 1 c) z x).view ∙ repeated_one o k c
+
+  pub put_runs : (none runs slice : List (Run C)) (k : ℕ) (c : C) → IsSize k → none ≡ [] → slice ≡ runs → Extends none runs (repeated o k 1 c) → AreRuns Fine slice
+  put_runs none runs slice k c s z e x =
+      let v = put_view none runs slice k c z e x in
+      let w = ap width v ∙ width-put o k c in
+      let f = s.few in
+      record {
+        some = subst AllSome (sym e) (built none runs (repeated o k 1 c) z x).some;
+        fine = subst (AllFine Fine) (sym v) (fine_put o Fine q k c s);
+        small = omega arith;
+      }
+
+  pub put_even : (none runs slice : List (Run C)) (k : ℕ) (c : C) → none ≡ [] → slice ≡ runs → Extends none runs (repeated o k 1 c) → width (elements slice) ≡ k
+  put_even none runs slice k c z e x = ap width (put_view none runs slice k c z e x) ∙ width-put o k c
+
+module _ {C H : Type 0} (o : Ops C H) where
+  pub slots_built : (slice puts none runs : List (Run C)) (m es : List (Element C)) (at k gap n : ℕ) → elements slice ≡ m → elements puts ≡ es → none ≡ [] →
+      Extends none runs (slots_weakened o (elements slice) at k gap n (elements puts)) → IsBuilt runs (slots_weakened o m at k gap n es)
+  slots_built slice puts none runs m es at k gap n v w z x =
+      built none runs (slots_weakened o m at k gap n es) z
+      (extends-along none runs _ _ (ap (λ (l : List (Element C)). slots_weakened o l at k gap n (elements puts)) v ∙ ap (slots_weakened o m at k gap n) w) x)
+
+module _ {C H : Type 0} (o : Ops C H) (Fine : ℕ → C → Type 0) (n : FineLaws o Fine) (l : OrderLaws o Fine) (j : JoinLaws o Fine) (q : PartLaws o Fine) where
+  pub slots_map : (bits : ℕ) (slice runs : List (Run C)) (m : List (Element C)) (at k gap i : ℕ) (c : C) → IsSeen Fine bits slice m → IsSize k → at + i * (k + gap) + k ≤ width m →
+      IsBuilt runs (slots_weakened o m at k gap i (put o k c)) → IsMap Fine bits runs
+  slots_map bits slice runs m at k gap i c s z h b =
+      built_map Fine runs (slots_weakened o m at k gap i (put o k c)) bits b (weakened_fine o Fine n l j q m (put o k c) k gap s.fine (fine_put o Fine q k c z) (width-put o k c) at i h)
+      (s.wide ∙ sym (weakened_width o Fine n l j q m (put o k c) k gap s.fine (fine_put o Fine q k c z) (width-put o k c) at i h)) s.small

@@ -9,7 +9,8 @@ use Rattle.cell_runs.specs.declared.runs.Run.{Run}
 use Rattle.cell_runs.specs.Runs.{element_of, elements, AllSome}
 use Rattle.cell_runs.proofs.Taking.{at_run, elements-first, elements-none, some_at, width-at, width-drop-le, none_past}
 use Rattle.offmap.specs.declared.access.Piece.{Piece}
-use Rattle.offmap.specs.Maps.{piece_of, glued_on}
+use Rattle.run_slots.specs.Offsets.{Represent}
+use Rattle.offmap.specs.Maps.{LoadsSteps, piece_of, glued_on}
 
 -- some elements of the run were put in front, and so many are left
 pub record GluesOn {C H : Type 0} (o : Ops C H) (count : ℕ) (e : Element C) (first : Piece C) (left : ℕ) (p : Piece C) : Type 0 where
@@ -142,3 +143,14 @@ module _ {C H : Type 0} (o : Ops C H) where
   unfolding glued elements
   none_glued [] e = refl
   none_glued (r ∷ rs) e = absurd (omega arith)
+
+module _ {C H : Type 0} (o : Ops C H) where
+  pub represented_within : (rs : List (Run C)) (m : List (Element C)) (k at step count : ℕ) (offsets slice : List ℕ) → elements rs ≡ m → slice ≡ offsets → Represent o (elements rs) k at step count offsets →
+      AllWithin k (width m) slice
+  represented_within rs m k at step count offsets slice v e r =
+      subst (λ (l : List ℕ). AllWithin k (width m) l) (sym e) (subst (λ (x : List (Element C)). AllWithin k (width x) offsets) v r.within)
+
+  pub steps_loaded : (rs : List (Run C)) (m : List (Element C)) (k at step count : ℕ) (offsets slice : List ℕ) (c : C) → elements rs ≡ m → slice ≡ offsets → Represent o (elements rs) k at step count offsets →
+      c ≡ loaded_all o m slice k → LoadsSteps o m k at step count c
+  steps_loaded rs m k at step count offsets slice c v e r l =
+      record { offsets = offsets; all = subst (λ (x : List (Element C)). Represent o x k at step count offsets) v r; is = l ∙ ap (λ (x : List ℕ). loaded_all o m x k) e }

@@ -1,3 +1,4 @@
 pub mod Building
 pub mod Gluing
 pub mod Weakening
+pub mod Ranges

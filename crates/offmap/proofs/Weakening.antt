@@ -1,11 +1,11 @@
 -- Weak stores, offset by offset.
-use Rattle.std.proofs.Common.{◌≡◌, ℕ, zero, suc, ◌+◌, ◌-◌, ◌<◌, ◌≤◌, ◌^◌, List, [], ◌∷◌, ◌++◌, length, drop, refl, sym, ap, ◌∙◌, subst, arith, append-nil, get_or}
-use Rattle.std.proofs.lemmas.List.{drop_more, drop_all, get_or_default}
+use Rattle.std.proofs.Common.{◌≡◌, ℕ, zero, suc, ◌+◌, ◌<◌, ◌≤◌, List, [], ◌∷◌, length, drop, sym, ap, ◌∙◌, arith, append-nil, get_or}
+use Rattle.std.proofs.lemmas.List.{drop_more, drop_all}
 use Rattle.cell_laws.specs.Elements.{Element, width, AllFine}
 use Rattle.cell_laws.specs.Cells.{Ops}
 use Rattle.cell_laws.specs.Laws.{FineLaws, OrderLaws, JoinLaws, PartLaws}
 use Rattle.cell_laws.specs.Join.{joined, joined_cell}
-use Rattle.cell_laws.specs.Access.{take_bits, drop_bits, copied, stored, weakened, IsSize, AllWithin}
+use Rattle.cell_laws.specs.Access.{take_bits, copied, stored, weakened, IsSize, AllWithin}
 use Rattle.cell_laws.proofs.Joins.{joined_above, joined_cell_laws}
 use Rattle.cell_laws.proofs.Parts.{take_front, drop_none}
 use Rattle.cell_laws.proofs.Accesses.{width-stored, fine_stored}

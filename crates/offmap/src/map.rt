@@ -1,8 +1,14 @@
 //! The map, and its parts.
-ghost use Rattle.std.specs.Prelude.{◌≡◌, ℕ, ◌+◌, ◌*◌, ◌<◌, ◌≤◌, ◌^◌, IfOk, replicate, [], ◌∷◌};
+ghost use Rattle.std.specs.Prelude.{◌≡◌, ℕ, suc, ◌+◌, ◌*◌, ◌<◌, ◌≤◌, ◌^◌, IfOk, replicate, [], ◌∷◌};
 ghost use Rattle.cell_laws.specs.Elements.{width, AllFine};
-ghost use Rattle.cell_laws.specs.Join.{joined};
-ghost use Rattle.cell_laws.specs.Access.{copied, pasted, repeated, stored, loaded, loaded_all, weakened, IsSize, AllWithin};
+ghost use Rattle.cell_laws.specs.Order.{included};
+ghost use Rattle.cell_laws.specs.Join.{joined, joined_cell};
+ghost use Rattle.cell_laws.specs.Access.{copied, pasted, repeated, put, stored, loaded, loaded_all, weakened, IsSize, AllWithin};
+ghost use Rattle.cell_runs.specs.Runs.{elements, AllSome, AreApart};
+ghost use Rattle.run_orders.specs.Singles.{all_single};
+ghost use Rattle.run_orders.specs.Deaths.{left_all};
+ghost use Rattle.run_slots.specs.Slots.{slots_weakened};
+ghost use Rattle.offmap.specs.Maps.{AreRanges, LoadsSteps};
 
 use crate::access::{glue_runs, push_filled};
 use cell_runs::Mem;
@@ -11,7 +17,13 @@ use cell_runs::parts::{copy_part, copy_rest, copy_runs, take_runs};
 use cell_runs::runs::Run;
 use run_joins::join::join;
 use run_merges::join::Join;
+use run_merges::widen::{Widening, Widens};
+use run_orders::deaths::{Death, leave_all};
+use run_orders::inclusion;
+use run_orders::singles::{Singles, are_single};
 use run_places::merge::Merge;
+use run_slots::offsets::{Steps, distinct_offsets};
+use run_slots::slots::{Slots, weaken};
 use std::alloc::Global;
 use std::marker::Model;
 
@@ -149,6 +161,98 @@ impl<C: Cells> OffMap<C> {
         join(alloc, merge, &first.runs, &second.runs, &mut runs)?;
         Ok(OffMap {
             bits: second.bits,
+            runs,
+        })
+    }
+
+    /// The map that allows what either of two that are as long does.
+    pub fn join(alloc: Global, first: &OffMap<C>, second: &OffMap<C>) -> Mem<OffMap<C>>
+        requires { width first.now ≡ width second.now }
+        ensures { IfOk result (λ m. m ≡ joined C.ops (joined_cell C.ops) first.now second.now) }
+    {
+        OffMap::merge(alloc, &Join, first, second)
+    }
+
+    /// The widening of two maps that are as long.
+    pub fn widen<W: Widens<C>>(
+        alloc: Global,
+        by: &W,
+        first: &OffMap<C>,
+        second: &OffMap<C>,
+    ) -> Mem<OffMap<C>>
+        requires { width first.now ≡ width second.now }
+        ensures { IfOk result (λ m. m ≡ joined C.ops (W.widened by.now) first.now second.now) }
+    {
+        OffMap::merge(alloc, &Widening { by }, first, second)
+    }
+
+    /// Whether the other map, which is as long, includes this one.
+    pub fn included(&self, other: &OffMap<C>) -> bool
+        requires { width self.now ≡ width other.now }
+        ensures { result ≡ included C.ops self.now other.now }
+    {
+        inclusion::included(&self.runs, &other.runs)
+    }
+
+    /// Its ranges of equal elements, the least number of them.
+    pub fn ranges(&self) -> &[Run<C>]
+        ensures { AreRanges self.now result.now }
+    {
+        &self.runs
+    }
+
+    /// Whether each of its elements allows one content alone.
+    pub fn is_single<S: Singles<C>>(&self, by: &S) -> bool
+        ensures { result ≡ all_single (S.single by.now) self.now }
+    {
+        are_single(by, &self.runs)
+    }
+
+    /// What is left of it when an object has died.
+    pub fn forget_base<D: Death<C>>(&self, alloc: Global, death: &D) -> Mem<OffMap<C>>
+        ensures { IfOk result (λ m. m ≡ left_all C.ops (D.left death.now) self.now) }
+    {
+        let mut runs = Vec::new(alloc);
+        leave_all(alloc, death, &self.runs, &mut runs)?;
+        Ok(OffMap {
+            bits: self.bits,
+            runs,
+        })
+    }
+
+    /// The join of the cells at all of the steps. The work is that of the ranges, not that of the steps, where these find the same in a range.
+    pub fn load_steps(&self, alloc: Global, steps: Steps, bits: u64) -> Mem<C>
+        requires size { IsSize bits }
+        requires step { 0 < steps.step }
+        requires inside { steps.first + steps.more * steps.step + bits ≤ width self.now }
+        ensures { IfOk result (λ c. LoadsSteps C.ops self.now bits steps.first steps.step (suc steps.more) c) }
+    {
+        let offsets = distinct_offsets(alloc, &self.runs, steps, bits)?;
+        self.load_all(alloc, &offsets, bits)
+    }
+
+    /// The map in which slots may each have the cell or what they had: the first slot stands at the bit `at`, and `more` slots follow, each behind
+    /// the gap. The work is that of the ranges, not that of the slots, where the slots in a range become the same.
+    pub fn store_slots(
+        &self,
+        alloc: Global,
+        at: u64,
+        slots: Slots,
+        more: u64,
+        cell: &C,
+    ) -> Mem<OffMap<C>>
+        requires size { IsSize slots.bits }
+        requires apart { slots.bits + slots.gap < 2 ^ 64 }
+        requires inside { at + more * (slots.bits + slots.gap) + slots.bits ≤ width self.now }
+        ensures { IfOk result (λ m. m
+            ≡ slots_weakened C.ops self.now at slots.bits slots.gap more (put C.ops slots.bits cell.now)) }
+    {
+        let mut put = Vec::new(alloc);
+        push_filled(alloc, slots.bits, 1, cell, &mut put)?;
+        let mut runs = Vec::new(alloc);
+        weaken(alloc, &self.runs, at, slots, more, &put, &mut runs)?;
+        Ok(OffMap {
+            bits: self.bits,
             runs,
         })
     }

@@ -1,12 +1,18 @@
 //! The laws. A list of elements is fine where each cell may stand in its element, as in every map.
-ghost use Rattle.std.specs.Prelude.{◌≡◌, ℕ, ◌+◌, ◌≤◌, true, List, ◌++◌, length, take, drop};
+ghost use Rattle.std.specs.Prelude.{◌≡◌, ℕ, ◌+◌, ◌*◌, ◌<◌, ◌≤◌, Bool, true, List, ◌∷◌, ◌++◌, length, take, drop, map};
 ghost use Rattle.cell_laws.specs.Elements.{Element, AllFine, width};
 ghost use Rattle.cell_laws.specs.Order.{included};
 ghost use Rattle.cell_laws.specs.Meaning.{Describes};
 ghost use Rattle.cell_laws.specs.Join.{joined, joined_cell};
 ghost use Rattle.cell_laws.specs.Access.{take_bits, drop_bits, copied, pasted, put, stored, loaded_all, weakened, IsSize, AllWithin};
 ghost use Rattle.cell_laws.specs.Laws.{MergeLaws};
+ghost use Rattle.run_orders.specs.Singles.{all_single};
+ghost use Rattle.run_orders.specs.Deaths.{left_all, LeftLaws};
 ghost use Rattle.offmap_laws.specs.Offsets.{IsAmong};
+ghost use Rattle.run_slots.specs.Offsets.{Represent};
+ghost use Rattle.run_slots.specs.Slots.{slots_weakened};
+ghost use Rattle.offmap_laws.specs.Contents.{AllAlike, SingleLaws, DeathLaws};
+ghost use Rattle.offmap_laws.specs.Slots.{AllMayBeStored};
 
 use crate::concrete::Concrete;
 use cell_runs::cells::Cells;
@@ -101,4 +107,54 @@ pub fn weak_store_has_new<C: Cells, M: Concrete<C>>()
     ensures { (m : List (Element C)) (ats : List ℕ) (k : ℕ) (c : C) (ks cs : List M.Bit) (at : ℕ) → IsSize k →
         AllFine C.fine m → AllWithin k (width m) ats → length ks ≡ width m → Describes M.allows m ks → M.allows k c cs →
         IsAmong ats at → Describes M.allows (weakened C.ops m ats k c) (take at ks ++ (cs ++ drop (at + k) ks)) }
+{}
+
+/// Where both maps have one element at the same bits, so has their join or widening: with the cell that is made of the two.
+pub fn join_of_elements<C: Cells>()
+    ensures { (merge : ℕ → C → C → C) (xs ys vs ws : List (Element C)) (k : ℕ) (x y : C) → AllFine C.fine xs → AllFine C.fine ys →
+        width xs ≡ width ys → 0 < k →
+        joined C.ops merge (xs ++ record { bits = k; cell = x } ∷ vs) (ys ++ record { bits = k; cell = y } ∷ ws)
+        ≡ joined C.ops merge xs ys ++ record { bits = k; cell = merge k x y } ∷ joined C.ops merge vs ws }
+{}
+
+/// In a join that cell allows nothing but what the join of the two cells does.
+pub fn join_of_cells<C: Cells>()
+    ensures { (k : ℕ) (x y : C) → C.fine k x → C.fine k y → C.ops.leq (joined_cell C.ops k x y) (C.ops.join x y) ≡ true }
+{}
+
+/// All contents of a map whose elements are each single are alike.
+pub fn single_maps_have_one_content<C: Cells, M: Concrete<C>>()
+    ensures { (single : ℕ → C → Bool) (alike : M.Bit → M.Bit → Bool) (m : List (Element C)) (js ks : List M.Bit) →
+        SingleLaws C.fine M.allows alike single → AllFine C.fine m → all_single single m ≡ true →
+        Describes M.allows m js → Describes M.allows m ks → AllAlike alike js ks }
+{}
+
+/// And a map whose contents are all alike is one of these.
+pub fn one_content_is_single<C: Cells, M: Concrete<C>>()
+    ensures { (single : ℕ → C → Bool) (alike : M.Bit → M.Bit → Bool) (m : List (Element C)) → SingleLaws C.fine M.allows alike single →
+        AllFine C.fine m → ((js ks : List M.Bit) → Describes M.allows m js → Describes M.allows m ks → AllAlike alike js ks) →
+        all_single single m ≡ true }
+{}
+
+/// When an object has died, a map describes what has become of each bit.
+pub fn death_describes<C: Cells, M: Concrete<C>>()
+    ensures { (wither : M.Bit → M.Bit) (left : C → C) (m : List (Element C)) (ks : List M.Bit) → LeftLaws C.ops C.fine left →
+        DeathLaws C.fine M.allows wither left → AllFine C.fine m → Describes M.allows m ks →
+        Describes M.allows (left_all C.ops left m) (map wither ks) }
+{}
+
+/// After a weak store to slots each of them may be as it was or as the cell allows, and the other bits are as they were.
+pub fn slots_describe<C: Cells, M: Concrete<C>>()
+    ensures { (m : List (Element C)) (at k gap n : ℕ) (c : C) (ks js : List M.Bit) → IsSize k → AllFine C.fine m →
+        Describes M.allows m ks → length ks ≡ width m → length js ≡ width m → at + n * (k + gap) + k ≤ width m →
+        take at js ≡ take at ks → AllMayBeStored M.allows k gap c ks js n at →
+        Describes M.allows (slots_weakened C.ops m at k gap n (put C.ops k c)) js }
+{}
+
+/// A cell of offsets at which all parts are found gives the content at each of the steps.
+pub fn steps_give<C: Cells, M: Concrete<C>>()
+    ensures { (m : List (Element C)) (k at step count i : ℕ) (offsets : List ℕ) (ks : List M.Bit) → IsSize k → AllFine C.fine m →
+        at + i * step + k ≤ width m → length ks ≡ width m → Describes M.allows m ks →
+        Represent C.ops m k at step count offsets → i < count →
+        M.gives k (loaded_all C.ops m offsets k) (take k (drop (at + i * step) ks)) }
 {}

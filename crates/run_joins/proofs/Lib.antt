@@ -1,4 +1,4 @@
 pub mod Running
 pub mod Walking
 pub mod Opening
-pub mod Coarse
+pub mod Repeated

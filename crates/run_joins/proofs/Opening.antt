@@ -1,15 +1,15 @@
 -- Stretches that are being read.
-use Rattle.std.proofs.Common.{◌≡◌, ◌≢◌, ℕ, zero, suc, ◌+◌, ◌-◌, ◌*◌, ◌<◌, ◌≤◌, ◌^◌, Bool, true, false, cond, ◌&&◌, List, [], ◌∷◌, ◌++◌, length, take, drop, refl, sym, ap, ◌∙◌, subst, arith, inl, inr, ◌⊎◌, append-nil, append_assoc, get_or}
-use Rattle.std.specs.Prelude.{replicate, nat_le}
-use Rattle.std.proofs.lemmas.List.{drop_all, length-append}
-use Rattle.std.proofs.lemmas.Bool.{cases_lt, eq-eqb, ne_eqb, le-leb, lt-leb, cases_eq}
+use Rattle.std.proofs.Common.{◌≡◌, ℕ, zero, suc, ◌+◌, ◌<◌, ◌≤◌, ◌^◌, true, false, List, [], ◌∷◌, ◌++◌, length, drop, refl, sym, ap, ◌∙◌, subst, arith, inl, inr, ◌⊎◌, append-nil, append_assoc, get_or}
+use Rattle.std.specs.Prelude.{nat_le}
+use Rattle.std.proofs.lemmas.List.{drop_all}
+use Rattle.std.proofs.lemmas.Bool.{cases_lt, le-leb, lt-leb, cases_eq}
 use Rattle.cell_runs.specs.declared.runs.Run.{Run}
 use Rattle.run_joins.specs.declared.cursor.Cursor.{Cursor}
 use Rattle.cell_laws.specs.Elements.{Element, width, AllFine}
 use Rattle.cell_laws.specs.Cells.{Ops}
 use Rattle.cell_laws.specs.Join.{is_some_wide, join_stretch, joined_from, joined}
-use Rattle.cell_runs.specs.Runs.{element_of, elements, AllSome, Extends}
-use Rattle.run_joins.specs.Joining.{rest, IsIn, IsCursor, AreEven, Steps, Moves, Open}
+use Rattle.cell_runs.specs.Runs.{elements, AllSome, Extends}
+use Rattle.run_joins.specs.Joining.{rest, IsCursor, AreEven, Steps, Moves, Open}
 use Rattle.cell_laws.proofs.Cuts.{width-append}
 use Rattle.cell_laws.proofs.Steps.{join_left, join_right, join_close, join_none}
 use Rattle.cell_laws.proofs.Stretches.{nothing_wide, other_wide, both_wide}

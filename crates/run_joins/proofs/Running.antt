@@ -1,10 +1,10 @@
 -- Cursors in runs.
-use Rattle.std.proofs.Common.{◌≡◌, ◌≢◌, ℕ, zero, suc, ◌+◌, ◌-◌, ◌*◌, ◌<◌, ◌≤◌, Bool, true, false, cond, List, [], ◌∷◌, ◌++◌, length, take, drop, refl, sym, ap, ◌∙◌, subst, arith, inl, inr, ◌⊎◌, append-nil, append_assoc, get_or, set}
+use Rattle.std.proofs.Common.{◌≡◌, ℕ, ◌+◌, ◌-◌, ◌<◌, ◌≤◌, List, [], ◌∷◌, ◌++◌, length, drop, refl, sym, ap, ◌∙◌, subst, arith, append_assoc, get_or}
 use Rattle.std.specs.Prelude.{replicate}
-use Rattle.std.proofs.lemmas.List.{length-append, drop-drop, drop_at, length-replicate, replicate-append-replicate, drop-append-le, drop-replicate}
+use Rattle.std.proofs.lemmas.List.{drop-drop, drop_at, length-replicate, replicate-append-replicate, drop-append-le, drop-replicate}
 use Rattle.cell_runs.specs.declared.runs.Run.{Run}
 use Rattle.run_joins.specs.declared.cursor.Cursor.{Cursor}
-use Rattle.cell_laws.specs.Elements.{Element, width}
+use Rattle.cell_laws.specs.Elements.{Element}
 use Rattle.cell_runs.specs.Runs.{element_of, elements, AllSome}
 use Rattle.cell_runs.proofs.Taking.{at_run, some_drop}
 use Rattle.run_joins.specs.Joining.{rest, IsIn, IsCursor, HasLeft, SameBits}

@@ -1,15 +1,14 @@
 -- Steps of the join over runs.
-use Rattle.std.proofs.Common.{◌≡◌, ◌≢◌, ℕ, zero, suc, ◌+◌, ◌-◌, ◌*◌, ◌<◌, ◌≤◌, ◌^◌, Bool, true, false, cond, ◌&&◌, List, [], ◌∷◌, ◌++◌, length, take, drop, refl, sym, ap, ◌∙◌, subst, arith, inl, inr, ◌⊎◌, append-nil, append_assoc, get_or, set, length-drop}
+use Rattle.std.proofs.Common.{◌≡◌, ℕ, ◌+◌, ◌-◌, ◌*◌, ◌<◌, List, [], ◌∷◌, ◌++◌, length, drop, refl, sym, ap, ◌∙◌, arith, get_or}
 use Rattle.std.specs.Prelude.{replicate, min}
-use Rattle.std.specs.List.{flat_map}
 use Rattle.std.proofs.lemmas.List.{length-append, length-replicate}
 use Rattle.cell_runs.specs.declared.runs.Run.{Run}
 use Rattle.run_joins.specs.declared.cursor.Cursor.{Cursor}
 use Rattle.cell_laws.specs.Elements.{Element, width}
 use Rattle.cell_laws.specs.Cells.{Ops}
 use Rattle.cell_laws.specs.Join.{join_stretch, joined_from}
-use Rattle.cell_runs.specs.Runs.{element_of, elements, AllSome, Extends}
-use Rattle.run_joins.specs.Joining.{rest, IsIn, IsCursor, HasLeft, SameBits, AreEven, Steps, Moves}
+use Rattle.cell_runs.specs.Runs.{element_of, AllSome, Extends}
+use Rattle.run_joins.specs.Joining.{rest, IsCursor, SameBits, AreEven, Steps, Moves}
 use Rattle.cell_laws.proofs.Cuts.{width-append}
 use Rattle.cell_laws.proofs.Steps.{join_run}
 use Rattle.cell_laws.proofs.Stretches.{width-replicate, stretch_one, many_same}

@@ -1,7 +1,7 @@
 -- Cursors in two lists of runs, and steps of their join.
-use Rattle.std.specs.Prelude.{◌≡◌, ℕ, ◌+◌, ◌*◌, ◌<◌, ◌≤◌, length, suc, ◌^◌, Bool, true, false, List, [], ◌∷◌, ◌++◌, drop, replicate}
+use Rattle.std.specs.Prelude.{◌≡◌, ℕ, ◌+◌, ◌<◌, ◌≤◌, length, ◌^◌, List, [], ◌∷◌, ◌++◌, drop}
 use Rattle.cell_runs.specs.declared.runs.Run.{Run}
-use Rattle.cell_runs.specs.Runs.{element_of, elements, AllSome, Extends}
+use Rattle.cell_runs.specs.Runs.{elements, AllSome, Extends}
 use Rattle.run_joins.specs.declared.cursor.Cursor.{Cursor}
 use Rattle.cell_laws.specs.Elements.{Element, width, AllFine}
 use Rattle.cell_laws.specs.Cells.{Ops}
@@ -75,8 +75,3 @@ pub record Open {C H : Type 0} (o : Ops C H) (merge : ℕ → C → C → C) (a 
   pub some : 0 < width (rest a i0)
   pub less : 0 < wp → length (rest a i) < length (rest a i0)
   pub first : wp ≡ 0 → i ≡ i0
-
--- a step of the join, or nothing changed
-abbrev pub Tried : {C H : Type 0} → Ops C H → (ℕ → C → C → C) → List (Run C) → Cursor → Cursor → List (Run C) → Cursor → Cursor → List (Run C) → List (Run C) → Bool → Type 0
-Tried o merge a i k b j l old new true = Steps o merge a i k b j l old new
-Tried o merge a i k b j l old new false = (k ≡ i) × (l ≡ j) × (new ≡ old)

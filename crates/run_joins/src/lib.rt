@@ -2,7 +2,9 @@
 #![tactic(auto)]
 
 mod cursor;
+mod each;
 pub mod join;
+mod periods;
 mod step;
 
 pub use cursor::Cursor;

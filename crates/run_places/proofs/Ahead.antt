@@ -1,20 +1,17 @@
 -- What stands from a bit of a list of runs on.
-use Rattle.std.proofs.Common.{◌≡◌, ℕ, zero, suc, ◌+◌, ◌-◌, ◌*◌, ◌<◌, ◌≤◌, ◌^◌, Bool, true, false, ◌&&◌, List, [], ◌∷◌, ◌++◌, length, take, drop, refl, sym, ap, ◌∙◌, subst, arith, inl, inr, append-nil, append_assoc, get_or, length-take, length-drop}
+use Rattle.std.proofs.Common.{◌≡◌, ℕ, zero, suc, ◌+◌, ◌-◌, ◌*◌, ◌<◌, ◌≤◌, List, [], ◌∷◌, ◌++◌, length, take, drop, refl, sym, ap, ◌∙◌, subst, arith, append_assoc, get_or}
 use Rattle.std.specs.Prelude.{replicate, min}
-use Rattle.std.specs.List.{list_all}
-use Rattle.std.proofs.lemmas.List.{drop-append-le, drop-drop, drop_all, take-append-drop, take_at, length-append, take-append-le}
-use Rattle.std.proofs.lemmas.Bool.{cases_lt, cases_eq}
+use Rattle.std.proofs.lemmas.List.{drop-append-le, drop-drop, drop_all, take-append-drop}
 use Rattle.cell_laws.specs.Elements.{Element, Place, spread, places, width}
-use Rattle.cell_laws.proofs.Places.{place, length-spread, length-places, drop-spread, drop-past}
+use Rattle.cell_laws.proofs.Places.{place, length-places, drop-spread, drop-past}
 use Rattle.cell_laws.proofs.Cuts.{places-append}
 use Rattle.cell_laws.proofs.Stretches.{width-replicate}
 use Rattle.cell_runs.specs.declared.runs.Run.{Run}
 use Rattle.cell_runs.specs.Runs.{element_of, elements, AllSome}
-use Rattle.cell_runs.proofs.Taking.{at_run, elements-first, elements-none, small_at, bits_at, some_at, some_drop}
-use Rattle.cell_runs.proofs.Portions.{Divides, divides}
+use Rattle.cell_runs.proofs.Taking.{at_run, elements-first, some_drop}
+use Rattle.cell_runs.proofs.Portions.{Divides}
 use Rattle.run_places.specs.declared.spots.Spot.{Spot}
-use Rattle.run_places.specs.declared.spots.Front.{Front}
-use Rattle.run_places.specs.Spots.{AreRuns, ahead, HasBit, IsSpot, IsFront}
+use Rattle.run_places.specs.Spots.{ahead, HasBit, IsSpot, IsFront}
 
 module _ {C : Type 0} where
   abbrev pub run_places : Run C → List (Place C)

@@ -1,9 +1,9 @@
 -- The next place, and known bits.
-use Rattle.std.proofs.Common.{◌≡◌, ℕ, zero, suc, ◌+◌, ◌-◌, ◌*◌, ◌<◌, ◌≤◌, Bool, true, false, cond, ◌&&◌, List, [], ◌∷◌, ◌++◌, length, take, drop, refl, sym, ap, ◌∙◌, subst, arith, inl, inr, append-nil, append_assoc, get_or, length-take, length-drop}
-use Rattle.std.specs.Prelude.{replicate, min, Option, None, Some, ◌==◌, ◌/◌, ◌%◌}
+use Rattle.std.proofs.Common.{◌≡◌, ℕ, zero, suc, ◌+◌, ◌-◌, ◌<◌, ◌≤◌, Bool, true, false, cond, ◌&&◌, List, [], ◌∷◌, ◌++◌, length, take, drop, refl, sym, ap, ◌∙◌, subst, arith, append-nil, append_assoc, get_or, length-take, length-drop}
+use Rattle.std.specs.Prelude.{Option, None, Some, ◌==◌, ◌/◌, ◌%◌}
 use Rattle.std.proofs.lemmas.List.{drop-append-le, take-append-le, drop_at, length-append}
 use Rattle.std.proofs.lemmas.Bool.{eq-eqb, ne_eqb, eqb-true, eqb-false}
-use Rattle.cell_laws.specs.Elements.{Element, Place, places, AllFine}
+use Rattle.cell_laws.specs.Elements.{Place, places}
 use Rattle.cell_laws.specs.Cells.{Ops}
 use Rattle.std.specs.List.{list_all}
 use Rattle.cell_laws.specs.Order.{and_bit, known, has_bits, is_start, is_admitted, is_bare, is_known, is_in}
@@ -11,14 +11,14 @@ use Rattle.cell_laws.proofs.Ordering.{known_length}
 use Rattle.cell_laws.specs.Join.{whole}
 use Rattle.cell_laws.proofs.Places.{place}
 use Rattle.cell_runs.specs.declared.runs.Run.{Run}
-use Rattle.cell_runs.specs.Runs.{element_of, elements, AllSome}
-use Rattle.cell_runs.proofs.Taking.{at_run, fine_at}
-use Rattle.cell_runs.proofs.Portions.{Divides, divides}
+use Rattle.cell_runs.specs.Runs.{element_of, elements}
+use Rattle.cell_runs.proofs.Taking.{at_run}
+use Rattle.cell_runs.proofs.Portions.{divides}
 use Rattle.run_places.specs.declared.spots.Spot.{Spot}
 use Rattle.run_places.specs.declared.spots.Front.{Front}
 use Rattle.run_places.specs.Spots.{ahead, IsSpot, IsFront, OnBits, OnWhole}
 use Rattle.run_places.proofs.Ahead.{spot_in, places-run, run_places, length-run, place_of_run}
-use Rattle.run_places.proofs.Passing.{in_range, next_take, next_length, front_is, front_of, length-front}
+use Rattle.run_places.proofs.Passing.{in_range, next_length, front_of, length-front}
 
 module _ {C : Type 0} where
   -- the place at a spot

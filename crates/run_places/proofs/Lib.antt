@@ -1,6 +1,9 @@
 pub mod Ahead
 pub mod Passing
+pub mod Repeating
+pub mod Adding
 pub mod Knowing
 pub mod Shading
 pub mod TakingIn
 pub mod Loose
+pub mod Widened

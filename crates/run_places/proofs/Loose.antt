@@ -1,16 +1,15 @@
 -- Bits by themselves, and the joins of stretches.
-use Rattle.std.proofs.Common.{◌≡◌, ℕ, zero, suc, ◌+◌, ◌-◌, ◌*◌, ◌<◌, ◌≤◌, Bool, true, false, cond, List, [], ◌∷◌, ◌++◌, length, take, drop, refl, sym, ap, ◌∙◌, subst, arith, inl, inr, append-nil, append_assoc, get_or}
-use Rattle.std.specs.Prelude.{Option, None, Some, replicate}
-use Rattle.std.proofs.lemmas.List.{length-append}
+use Rattle.std.proofs.Common.{◌≡◌, ℕ, zero, suc, ◌*◌, ◌<◌, ◌≤◌, Bool, true, false, List, [], ◌∷◌, ◌++◌, length, refl, sym, ap, ◌∙◌, subst, arith, inl, inr, append-nil, append_assoc, get_or}
+use Rattle.std.specs.Prelude.{Option, None, replicate}
 use Rattle.std.proofs.lemmas.Bool.{cases_eq}
 use Rattle.cell_laws.specs.Elements.{Element, Place, places, width}
 use Rattle.cell_laws.specs.Cells.{Ops}
 use Rattle.cell_laws.specs.Join.{with_all, any_bits, or_any, or_first, join_stretch}
 use Rattle.cell_laws.proofs.Places.{length-places}
 use Rattle.cell_runs.specs.declared.runs.Run.{Run}
-use Rattle.cell_runs.specs.Runs.{element_of, elements, AllSome, Extends}
+use Rattle.cell_runs.specs.Runs.{elements, AllSome, Extends}
 use Rattle.cell_runs.proofs.Pushing.{extends-both, extends-along, extends-none}
-use Rattle.cell_runs.proofs.Taking.{elements-none, none_past}
+use Rattle.cell_runs.proofs.Taking.{elements-none}
 use Rattle.run_places.specs.declared.spots.Spot.{Spot}
 use Rattle.run_places.specs.declared.spots.Front.{Front}
 use Rattle.run_places.specs.Spots.{ahead, IsSpot, IsFront}

@@ -1,13 +1,12 @@
 -- Tests of the cells of the next places, run by run.
-use Rattle.std.proofs.Common.{◌≡◌, ℕ, zero, suc, ◌+◌, ◌-◌, ◌*◌, ◌<◌, ◌≤◌, Bool, true, false, ◌&&◌, List, [], ◌∷◌, ◌++◌, length, take, drop, refl, sym, ap, ◌∙◌, subst, arith, inl, inr, append-nil, append_assoc, get_or, length-take, length-drop}
-use Rattle.std.specs.Prelude.{replicate, min}
+use Rattle.std.proofs.Common.{◌≡◌, ℕ, zero, suc, ◌+◌, ◌-◌, ◌<◌, ◌≤◌, Bool, true, false, ◌&&◌, List, [], ◌∷◌, ◌++◌, length, take, drop, refl, sym, ap, ◌∙◌, subst, arith, inl, inr, get_or, length-take, length-drop}
 use Rattle.std.specs.List.{list_all}
-use Rattle.std.proofs.lemmas.List.{drop_all, length-append, take_all, drop_at, take_at, drop-append-le, take-append-le, take-append-drop}
+use Rattle.std.proofs.lemmas.List.{length-append, drop-append-le, take-append-le}
 use Rattle.std.proofs.lemmas.Bool.{cases_lt}
-use Rattle.cell_laws.specs.Elements.{Element, Place, places}
+use Rattle.cell_laws.specs.Elements.{Place, places}
 use Rattle.cell_runs.specs.declared.runs.Run.{Run}
-use Rattle.cell_runs.specs.Runs.{element_of, elements, AllSome}
-use Rattle.cell_runs.proofs.Taking.{at_run, elements-none, none_past}
+use Rattle.cell_runs.specs.Runs.{element_of, elements}
+use Rattle.cell_runs.proofs.Taking.{at_run, none_past}
 use Rattle.run_places.specs.declared.spots.Spot.{Spot}
 use Rattle.run_places.specs.declared.spots.Front.{Front}
 use Rattle.run_places.specs.Spots.{ahead, IsSpot, IsFront}

@@ -1,15 +1,14 @@
 -- Flags that a cell takes in, run by run.
-use Rattle.std.proofs.Common.{◌≡◌, ℕ, zero, suc, ◌+◌, ◌-◌, ◌*◌, ◌<◌, ◌≤◌, Bool, true, false, ◌&&◌, cond, List, [], ◌∷◌, ◌++◌, length, take, drop, refl, sym, ap, ◌∙◌, subst, arith, append-nil, get_or}
-use Rattle.std.specs.Prelude.{Option, None, Some, min}
+use Rattle.std.proofs.Common.{◌≡◌, ℕ, zero, suc, ◌-◌, ◌<◌, ◌≤◌, Bool, true, false, List, [], ◌∷◌, ◌++◌, length, take, refl, sym, ap, ◌∙◌, subst, arith, get_or}
+use Rattle.std.specs.Prelude.{None, Some}
 use Rattle.std.specs.List.{list_all}
 use Rattle.std.proofs.lemmas.Bool.{and_parts}
-use Rattle.cell_laws.specs.Elements.{Element, Place, AllFine}
+use Rattle.cell_laws.specs.Elements.{Place}
 use Rattle.cell_laws.specs.Cells.{Ops}
 use Rattle.cell_laws.specs.Order.{known}
 use Rattle.cell_laws.specs.Join.{shaded, with_known, with_others}
-use Rattle.cell_laws.specs.Laws.{OrderLaws, JoinLaws}
+use Rattle.cell_laws.specs.Laws.{JoinLaws}
 use Rattle.cell_runs.specs.declared.runs.Run.{Run}
-use Rattle.cell_runs.specs.Runs.{element_of, elements, AllSome}
 use Rattle.run_places.specs.declared.spots.Spot.{Spot}
 use Rattle.run_places.specs.declared.spots.Front.{Front}
 use Rattle.run_places.specs.Spots.{ahead, IsSpot, IsFront}

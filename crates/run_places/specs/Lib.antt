@@ -1,2 +1,4 @@
 pub mod Spots
+pub mod Chunks
 pub mod Stretches
+pub mod Widens

@@ -1,6 +1,6 @@
 -- Single bits of lists of runs.
-use Rattle.std.specs.Prelude.{◌≡◌, ℕ, ◌+◌, ◌-◌, ◌*◌, ◌<◌, ◌≤◌, ◌^◌, Bool, true, false, List, [], ◌∷◌, ◌++◌, take, drop, replicate, min, Option, None, Some}
-use Rattle.cell_laws.specs.Elements.{Element, Place, places, width, AllFine}
+use Rattle.std.specs.Prelude.{◌≡◌, ℕ, ◌+◌, ◌-◌, ◌*◌, ◌<◌, ◌^◌, Bool, true, false, List, [], ◌∷◌, ◌++◌, take, drop, replicate, min, Option, None, Some}
+use Rattle.cell_laws.specs.Elements.{Place, places, width, AllFine}
 use Rattle.cell_laws.specs.Join.{whole}
 use Rattle.cell_runs.specs.declared.runs.Run.{Run}
 use Rattle.cell_runs.specs.Runs.{element_of, elements, AllSome}

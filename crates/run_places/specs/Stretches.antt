@@ -1,5 +1,5 @@
 -- Stretches of two lists of runs.
-use Rattle.std.specs.Prelude.{◌≡◌, ℕ, ◌+◌, Bool, true, false, List, [], ◌++◌, length, Option, None, Some}
+use Rattle.std.specs.Prelude.{◌≡◌, ℕ, ◌+◌, Bool, true, false, List, ◌++◌, length, Option, None, Some}
 use Rattle.cell_laws.specs.Elements.{Element, Place, width}
 use Rattle.cell_laws.specs.Cells.{Ops}
 use Rattle.cell_laws.specs.Join.{with_all, join_stretch}

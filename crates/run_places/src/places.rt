@@ -167,7 +167,7 @@ fn has_known<C: Cells>(cell: &C, bits: u64, runs: &[Run<C>], spot: Spot) -> bool
 }
 
 /// Whether an element of so many bits with the cell allows what stands at the next places.
-pub(crate) fn is_in<C: Cells>(cell: &C, bits: u64, runs: &[Run<C>], spot: Spot) -> bool
+pub fn is_in<C: Cells>(cell: &C, bits: u64, runs: &[Run<C>], spot: Spot) -> bool
     requires runs { AreRuns C.fine runs.now }
     requires spot { IsSpot runs.now spot }
     requires fine { C.fine bits cell.now }

@@ -1,6 +1,6 @@
 //! Single bits of lists of runs.
-ghost use Rattle.std.specs.Prelude.{◌≡◌, ℕ, ◌+◌, ◌-◌, ◌*◌, ◌<◌, ◌≤◌, length};
-ghost use Rattle.run_places.specs.Spots.{AreRuns, IsSpot, IsFront};
+ghost use Rattle.std.specs.Prelude.{◌≡◌, ℕ, ◌+◌, ◌-◌, ◌*◌, ◌<◌, ◌≤◌, drop, length};
+ghost use Rattle.run_places.specs.Spots.{AreRuns, ahead, IsSpot, IsFront};
 
 use cell_runs::cells::Cells;
 use cell_runs::runs::Run;
@@ -14,13 +14,13 @@ pub struct Spot {
 
 /// A stretch of bits of one run, and the spot behind it.
 #[derive(Clone, Copy, Drop)]
-pub(crate) struct Front {
-    pub(crate) count: u64,
-    pub(crate) next: Spot,
+pub struct Front {
+    pub count: u64,
+    pub next: Spot,
 }
 
 /// The bits from the spot on that are of its run, at most so many.
-pub(crate) fn step_along<C: Cells>(runs: &[Run<C>], spot: Spot, most: u64) -> Front
+pub fn step_along<C: Cells>(runs: &[Run<C>], spot: Spot, most: u64) -> Front
     requires runs { AreRuns C.fine runs.now }
     requires spot { IsSpot runs.now spot }
     requires inside { spot.index < length runs.now }
@@ -46,4 +46,22 @@ pub(crate) fn step_along<C: Cells>(runs: &[Run<C>], spot: Spot, most: u64) -> Fr
             skip,
         },
     }
+}
+
+/// The spot `bits` bits further on.
+pub fn skip_bits<C: Cells>(runs: &[Run<C>], spot: Spot, bits: u64) -> Spot
+    requires runs { AreRuns C.fine runs.now }
+    requires spot { IsSpot runs.now spot }
+    requires enough { bits ≤ length (ahead runs.now spot) }
+    ensures ahead { ahead runs.now result ≡ drop bits (ahead runs.now spot) }
+    ensures spot { IsSpot runs.now result }
+{
+    let mut at = spot;
+    let mut left = bits;
+    while left > 0 {
+        let Front { count, next } = step_along(runs, at, left);
+        left -= count;
+        at = next;
+    }
+    at
 }

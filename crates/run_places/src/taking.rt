@@ -6,31 +6,15 @@ ghost use Rattle.cell_runs.specs.Runs.{element_of, elements};
 ghost use Rattle.run_places.specs.Spots.{AreRuns, ahead, IsSpot};
 ghost use Rattle.run_places.specs.Stretches.{OnTaken, OnDone};
 
+use crate::chunks::chunk_at;
 use crate::merge::Merge;
 use crate::places::{is_in, starts, with_others};
-use crate::spots::{Front, Spot, step_along};
+use crate::repeats::push_times;
+use crate::spots::{Spot, skip_bits};
 use cell_runs::Mem;
 use cell_runs::cells::Cells;
 use cell_runs::runs::{Run, push};
 use std::alloc::Global;
-
-/// The spot `bits` bits further on.
-fn skip_bits<C: Cells>(runs: &[Run<C>], spot: Spot, bits: u64) -> Spot
-    requires runs { AreRuns C.fine runs.now }
-    requires spot { IsSpot runs.now spot }
-    requires enough { bits ≤ length (ahead runs.now spot) }
-    ensures ahead { ahead runs.now result ≡ drop bits (ahead runs.now spot) }
-    ensures spot { IsSpot runs.now result }
-{
-    let mut at = spot;
-    let mut left = bits;
-    while left > 0 {
-        let Front { count, next } = step_along(runs, at, left);
-        left -= count;
-        at = next;
-    }
-    at
-}
 
 /// The cell with what stands at the next places, if it can hold that.
 fn with_places<C: Cells, M: Merge<C>>(
@@ -62,6 +46,43 @@ fn with_places<C: Cells, M: Merge<C>>(
     with_others(alloc, cell, bits, runs, spot)
 }
 
+/// Adds `count` elements like those of the run with what stands at the next places, if each can hold that.
+fn with_few<C: Cells, M: Merge<C>>(
+    alloc: Global,
+    merge: &M,
+    runs: &[Run<C>],
+    spot: Spot,
+    run: &Run<C>,
+    count: u64,
+    out: &mut Vec<Run<C>>,
+) -> Mem<bool>
+    requires runs { AreRuns C.fine runs.now }
+    requires spot { IsSpot runs.now spot }
+    requires fine { C.fine run.now.bits run.now.cell }
+    requires enough { count * run.now.bits ≤ length (ahead runs.now spot) }
+    ensures { IfOk result (λ done. OnDone (with_all C.ops (M.merged merge.now) (take (count * run.now.bits) (ahead runs.now spot))
+        (replicate count (element_of run.now))) out.old.items out.new.items done) }
+{
+    let mut at = spot;
+    let mut left = count;
+    while left > 0 {
+        let Some(cell) = with_places(alloc, merge, &run.cell, run.bits, runs, at)? else {
+            return Ok(false);
+        };
+        push(
+            out,
+            Run {
+                bits: run.bits,
+                count: 1,
+                cell,
+            },
+        )?;
+        at = skip_bits(runs, at, run.bits);
+        left -= 1;
+    }
+    Ok(true)
+}
+
 /// Adds the elements of the run with what stands at their places from the spot on, if each can hold that.
 fn with_run<C: Cells, M: Merge<C>>(
     alloc: Global,
@@ -81,19 +102,14 @@ fn with_run<C: Cells, M: Merge<C>>(
 {
     let mut left = run.count;
     while left > 0 {
-        let Some(cell) = with_places(alloc, merge, &run.cell, run.bits, runs, *spot)? else {
+        let next = chunk_at(runs, *spot, run.bits, left);
+        let mut made = Vec::new(alloc);
+        if !with_few(alloc, merge, runs, *spot, run, next.size, &mut made)? {
             return Ok(false);
-        };
-        push(
-            out,
-            Run {
-                bits: run.bits,
-                count: 1,
-                cell,
-            },
-        )?;
-        *spot = skip_bits(runs, *spot, run.bits);
-        left -= 1;
+        }
+        push_times(alloc, &made, next.repeats, out)?;
+        *spot = next.next;
+        left -= next.size * next.repeats;
     }
     Ok(true)
 }

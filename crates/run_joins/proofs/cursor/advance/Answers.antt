@@ -1,5 +1,4 @@
-use Rattle.std.proofs.Common.{◌≡◌, ℕ, ◌+◌, ◌-◌, ◌<◌, ◌≤◌, drop, arith, List}
-use Rattle.run_joins.specs.Joining.{rest, IsCursor}
+use Rattle.std.proofs.Common.{◌+◌, arith}
 use Rattle.run_joins.proofs.Running.{rest_next, rest_on, has_left, cursor_next, cursor_from}
 use Rattle.run_joins.proofs.cursor.advance.Goals as goal
 

@@ -1,4 +1,4 @@
-use Rattle.std.proofs.Common.{◌≡◌, ◌≤◌, arith}
+use Rattle.std.proofs.Common.{arith}
 use Rattle.run_joins.proofs.Opening.{join_begin, join_step, join_done}
 use Rattle.run_joins.proofs.join.join.Goals as goal
 

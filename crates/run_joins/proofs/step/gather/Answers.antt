@@ -1,10 +1,8 @@
-use Rattle.std.proofs.Common.{◌≡◌, ◌+◌, ◌<◌, ◌≤◌, ◌++◌, [], ◌∷◌, sym, ap, ◌∙◌, arith, ℕ, List}
-use Rattle.run_joins.specs.Joining.{rest, Open}
+use Rattle.std.proofs.Common.{ap, arith}
 use Rattle.cell_runs.specs.Runs.{elements}
-use Rattle.cell_laws.specs.Join.{join_stretch}
 use Rattle.std.proofs.lemmas.Result.{on_ok_weaker}
 use Rattle.cell_runs.proofs.Pushing.{extends-along}
-use Rattle.run_joins.proofs.Opening.{no_part, part_more, part_same, stretch_even, rest_some, open_begin, open_left, open_right, left_index, right_index, closed, fits_left, fits_right, opened, made_is}
+use Rattle.run_joins.proofs.Opening.{no_part, part_more, rest_some, open_left, open_right, left_index, right_index, closed, fits_left, fits_right, opened, made_is}
 use Rattle.run_joins.proofs.step.gather.Goals as goal
 
 pub loop-alloc-init : goal.loop-alloc-init

@@ -1,4 +1,4 @@
-use Rattle.std.proofs.Common.{◌≡◌, ◌+◌, length}
+use Rattle.std.proofs.Common.{◌+◌, length}
 use Rattle.run_joins.specs.Joining.{rest, Open}
 use Rattle.run_joins.proofs.Opening.{IsPart}
 use Rattle.run_joins.proofs.step.gather.Given as goal

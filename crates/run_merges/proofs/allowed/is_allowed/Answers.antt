@@ -1,4 +1,4 @@
-use Rattle.std.proofs.Common.{◌≡◌, sym, ◌∙◌}
+use Rattle.std.proofs.Common.{sym, ◌∙◌}
 use Rattle.run_merges.proofs.Allowing.{allowed_start, allowed_any, allowed_bare, allowed_known}
 use Rattle.run_merges.proofs.allowed.is_allowed.Goals as goal
 

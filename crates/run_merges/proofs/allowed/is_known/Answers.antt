@@ -1,4 +1,4 @@
-use Rattle.std.proofs.Common.{◌≡◌, length, sym, ◌∙◌, ap, subst, ℕ}
+use Rattle.std.proofs.Common.{sym, ◌∙◌, ap, subst, ℕ}
 use Rattle.std.specs.Prelude.{Some}
 use Rattle.cell_laws.specs.Elements.{spread}
 use Rattle.cell_laws.specs.Order.{known}

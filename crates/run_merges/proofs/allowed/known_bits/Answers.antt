@@ -1,4 +1,4 @@
-use Rattle.std.proofs.Common.{◌≡◌, ◌<◌, ◌≤◌, arith, sym, ◌∙◌}
+use Rattle.std.proofs.Common.{arith, sym, ◌∙◌}
 use Rattle.run_merges.proofs.Allowing.{know_begin, know_stop, know_step, know_end}
 use Rattle.run_merges.proofs.allowed.known_bits.Goals as goal
 

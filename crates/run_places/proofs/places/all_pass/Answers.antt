@@ -1,4 +1,4 @@
-use Rattle.std.proofs.Common.{◌≡◌, ◌<◌, ◌≤◌, arith, sym, ◌∙◌, ap}
+use Rattle.std.proofs.Common.{arith, sym, ◌∙◌}
 use Rattle.run_places.proofs.Passing.{pass_range, pass_step, pass_stop, spot_cell}
 use Rattle.run_places.proofs.places.all_pass.Goals as goal
 

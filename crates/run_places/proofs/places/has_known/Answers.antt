@@ -1,4 +1,4 @@
-use Rattle.std.proofs.Common.{◌≡◌, ◌≤◌, length, take, sym, ◌∙◌, ap, subst, ℕ}
+use Rattle.std.proofs.Common.{take, sym, ◌∙◌, ap, subst, ℕ}
 use Rattle.std.specs.Prelude.{Some}
 use Rattle.cell_laws.specs.Order.{known}
 use Rattle.run_places.specs.Spots.{ahead}

@@ -1,4 +1,4 @@
-use Rattle.std.proofs.Common.{◌≡◌, take, sym, ◌∙◌}
+use Rattle.std.proofs.Common.{take, sym, ◌∙◌}
 use Rattle.run_places.specs.Spots.{ahead}
 use Rattle.run_places.proofs.Knowing.{in_start, in_admitted, in_bare, in_known, admitted_list, bare_list}
 use Rattle.run_places.proofs.places.is_in.Goals as goal

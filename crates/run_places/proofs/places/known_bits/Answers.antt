@@ -1,4 +1,4 @@
-use Rattle.std.proofs.Common.{◌≡◌, ◌<◌, ◌≤◌, ◌+◌, ◌-◌, arith, length, sym, ◌∙◌, ap}
+use Rattle.std.proofs.Common.{arith, sym, ◌∙◌}
 use Rattle.cell_runs.proofs.Taking.{bits_at, fine_at}
 use Rattle.run_places.proofs.Knowing.{know_begin, know_range, know_stop, know_step, know_end}
 use Rattle.run_places.proofs.places.known_bits.Goals as goal

@@ -1,4 +1,4 @@
-use Rattle.std.proofs.Common.{◌≡◌, ◌<◌, ◌≤◌, arith}
+use Rattle.std.proofs.Common.{arith}
 use Rattle.cell_runs.proofs.Taking.{fine_at}
 use Rattle.run_places.proofs.Passing.{spot_cell}
 use Rattle.run_places.proofs.Shading.{shade_range, shade_blank_at, shade_step, shade_end}

@@ -1,4 +1,4 @@
-use Rattle.std.proofs.Common.{◌≡◌, ◌<◌, ◌≤◌, arith, ◌∙◌}
+use Rattle.std.proofs.Common.{arith, ◌∙◌}
 use Rattle.cell_runs.proofs.Taking.{bits_at}
 use Rattle.run_places.proofs.Passing.{in_range}
 use Rattle.run_places.proofs.Knowing.{start_bits, start_cut, start_is}

@@ -1,4 +1,4 @@
-use Rattle.std.proofs.Common.{◌≡◌, sym, ◌∙◌}
+use Rattle.std.proofs.Common.{sym, ◌∙◌}
 use Rattle.run_places.proofs.places.with_flags.Goals as goal
 
 pub returns-then-is_within : goal.returns-then-is_within

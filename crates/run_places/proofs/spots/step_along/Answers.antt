@@ -1,4 +1,4 @@
-use Rattle.std.proofs.Common.{◌≡◌, ◌<◌, ◌≤◌, ◌*◌, ◌+◌, ◌-◌, ◌^◌, arith}
+use Rattle.std.proofs.Common.{arith}
 use Rattle.cell_runs.proofs.Taking.{small_at}
 use Rattle.run_places.proofs.Ahead.{spot_in, front_past, front_inside}
 use Rattle.run_places.proofs.spots.step_along.Goals as goal

@@ -1,4 +1,4 @@
-use Rattle.std.proofs.Common.{◌≡◌, ◌<◌, ◌≤◌, arith}
+use Rattle.std.proofs.Common.{arith}
 use Rattle.run_places.proofs.Loose.{bits_begin, bits_second, bits_step, bits_end}
 use Rattle.run_places.proofs.stretches.any_bits.Goals as goal
 

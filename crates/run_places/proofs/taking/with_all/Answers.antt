@@ -1,4 +1,4 @@
-use Rattle.std.proofs.Common.{◌≡◌, ◌<◌, ◌≤◌, arith, sym, ◌∙◌}
+use Rattle.std.proofs.Common.{arith}
 use Rattle.cell_runs.proofs.Taking.{fine_at}
 use Rattle.run_places.proofs.TakingIn.{taken_yes, taken_no, all_begin, all_fits, all_step, all_fail, all_end}
 use Rattle.run_places.proofs.taking.with_all.Goals as goal

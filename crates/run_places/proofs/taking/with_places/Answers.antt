@@ -1,4 +1,4 @@
-use Rattle.std.proofs.Common.{◌≡◌, ◌<◌, ◌≤◌, ◌+◌, arith, take, sym, ◌∙◌, subst, ℕ}
+use Rattle.std.proofs.Common.{arith, take, sym, ◌∙◌, subst, ℕ}
 use Rattle.std.proofs.lemmas.Result.{IfOk-weaker}
 use Rattle.cell_runs.proofs.Taking.{at_run, fine_at}
 use Rattle.run_places.specs.Spots.{ahead}

@@ -1,7 +1,4 @@
-use Rattle.std.proofs.Common.{◌≡◌, ◌<◌, ◌^◌, ap, ◌∙◌, sym, arith, refl}
-use Rattle.cell_laws.specs.Elements.{width}
-use Rattle.cell_runs.specs.Runs.{elements}
-use Rattle.offmap.proofs.Building.{seen, join_built, join_map, join_maps}
+use Rattle.offmap.proofs.Building.{seen, join_built, join_map}
 use Rattle.offmap.proofs.map.OffMap.merge.Goals as goal
 
 pub invariant_of-result : goal.invariant_of-result

@@ -1,5 +1,4 @@
-use Rattle.std.proofs.Common.{◌≡◌, ◌<◌, ◌≤◌, ◌+◌, arith, refl, sym, ◌∙◌, ap, get_or}
-use Rattle.cell_laws.specs.Elements.{width}
+use Rattle.std.proofs.Common.{arith, refl, get_or}
 use Rattle.offmap.proofs.Building.{seen}
 use Rattle.offmap.proofs.Weakening.{weak_begin, weak_inside, weak_even, weak_step, weak_end}
 use Rattle.offmap.proofs.map.OffMap.store_weak.Goals as goal

@@ -1,4 +1,4 @@
-use Rattle.std.proofs.Common.{◌≡◌, sym, ◌∙◌}
+use Rattle.std.proofs.Common.{sym, ◌∙◌}
 use Rattle.std.proofs.lemmas.Result.{IfOk-weaker}
 use Rattle.run_merges.proofs.Allowing.{cell_allowed, cell_joined}
 use Rattle.run_merges.proofs.join.JoinMerge.merge.Goals as goal

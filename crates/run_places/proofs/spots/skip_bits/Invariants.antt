@@ -1,5 +1,5 @@
 use Rattle.run_places.proofs.TakingIn.{SkipsOn}
-use Rattle.run_places.proofs.taking.skip_bits.Given as goal
+use Rattle.run_places.proofs.spots.skip_bits.Given as goal
 
 abbrev pub invariant-loop-left : goal.invariant-loop-left
 invariant-loop-left g l = SkipsOn l.runs l.initial.at l.bits l.at l.left

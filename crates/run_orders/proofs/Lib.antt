@@ -1,0 +1,3 @@
+pub mod Including
+pub mod Alone
+pub mod Leaving

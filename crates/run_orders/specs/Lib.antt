@@ -1,0 +1,3 @@
+pub mod Inclusion
+pub mod Singles
+pub mod Deaths

@@ -1,0 +1,5 @@
+pub mod Walking
+pub mod Again
+pub mod Weakening
+pub mod Widths
+pub mod Representing

@@ -1,0 +1,4 @@
+pub mod Slots
+pub mod Walks
+pub mod Weakens
+pub mod Offsets
