@@ -4,3 +4,7 @@ pub mod Values
 pub mod Mixes
 pub mod Cells
 pub mod BitParts
+mod Commons
+mod Rows
+mod Same
+mod Making

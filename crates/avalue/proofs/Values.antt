@@ -1,5 +1,5 @@
 -- What the parts of a value tell of it.
-use Rattle.std.proofs.Common.{◌≡◌, ◌⊎◌, ℕ, ◌/◌, ◌-◌, ◌^◌, ◌==◌, Bool, true, false, cond, List, [], ◌∷◌, map, refl, sym, subst, ap, ◌∙◌, inl, inr}
+use Rattle.std.proofs.Common.{◌≡◌, ◌⊎◌, ◌↔◌, ℕ, ◌/◌, ◌-◌, ◌^◌, ◌==◌, Bool, true, false, cond, List, [], ◌∷◌, map, refl, sym, subst, ap, ◌∙◌, inl, inr}
 use Rattle.std.specs.Prelude.{None, Some, Result, Ok, Err, IfOk, not, pos}
 use Rattle.smallvec.specs.SmallVec.{SmallVec}
 use Rattle.std.specs.List.{list_all}
@@ -19,6 +19,14 @@ use Rattle.avalue_base.specs.Ops.{IsSound}
 use Rattle.avalue_base.proofs.Sounds.{join_sound, map_ascending, union_ascending, union_some_left, union_some_right}
 use Rattle.avalue_base.proofs.Joins.{value_join_left, value_join_right}
 use Rattle.avalue_base.proofs.Means.{value_join_least}
+use Rattle.std.specs.FinSet.{contains}
+use Rattle.c_memory.specs.Layouts.{Layout}
+use Rattle.c_memory.specs.Values.{Value}
+use Rattle.avalue_base.specs.Lists.{has_base, gathered}
+use Rattle.avalue_base.specs.Meaning.{Means, IsWord}
+use Rattle.avalue_base.specs.Meets.{meet_values}
+use Rattle.avalue_base.proofs.Leaving.{left_means, gathered_means}
+use Rattle.avalue_base.proofs.Meets.{meet_means, meet_first}
 use Rattle.avalue.specs.Walks.{all_in}
 use Rattle.avalue.specs.Views.{numbers_in, addresses_of, members_of, address_value, IsMixed}
 use Rattle.avalue.proofs.Walking.{offsets_lie, addresses_in, bases_in, addresses_among}
@@ -42,7 +50,7 @@ none_in (Separate as' xs) w n e f = cc
 none_in (Mixed bs) (Mixed cs) n e f = cc
 none_in (Mixed bs) (Separate cs ys) n e f = refl
 
-some_is : (a b : Ival) → Some a ≡ Some b → a ≡ b
+pub some_is : (a b : Ival) → Some a ≡ Some b → a ≡ b
 some_is a b e = cc
 
 pub separates : (v w : AVal) (r s : Bool) (n m : Ival) (xs ys : List Address) → numbers_in v ≡ Some n → numbers_in w ≡ Some m → xs ≡ addresses_of v → ys ≡ addresses_of w → AreAscending base_of xs → AreAscending base_of ys →
@@ -167,3 +175,24 @@ joined_second (Ok u) v w h = subst (λ z. value_in w z ≡ true) (sym h) (value_
 pub joined_least : {E : Type 0} (r : Result AVal E) (v w : AVal) → IfOk r (λ u. u ≡ join_values v w) → IfOk r (λ u. (t : AVal) → IsSound t → value_in v t ≡ true → value_in w t ≡ true → value_in u t ≡ true)
 joined_least (Err x) v w h = tt
 joined_least (Ok u) v w h = λ t s a b. subst (λ z. value_in z t ≡ true) (sym h) (value_join_least v w t s a b)
+
+-- ---- what is left, mixes and meets
+
+pub left_answers : {E : Type 0} (r : Result AVal E) (base : ℕ) (v : AVal) → IfOk r (λ u. u ≡ value_left base v) →
+    IfOk r (λ u. (l : Layout) (x : Value) → Means l v x → contains x.provenance base ≡ false → IsWord x.number → Means l u x)
+left_answers (Err e) base v h = tt
+left_answers (Ok u) base v h = λ l x m k w. subst (λ z. Means l z x) (sym h) (left_means l base v x m k w)
+
+pub mix_answers : {E : Type 0} (r : Result AVal E) (bases : List ℕ) → IfOk r (λ u. u ≡ Mixed (gathered bases)) →
+    IfOk r (λ u. (l : Layout) (x : Value) → Means l u x ↔ ((q : ℕ) → contains x.provenance q ≡ true → has_base bases q ≡ true))
+mix_answers (Err e) bases h = tt
+mix_answers (Ok u) bases h = λ l x. subst (λ z. Means l z x ↔ ((q : ℕ) → contains x.provenance q ≡ true → has_base bases q ≡ true)) (sym h) (gathered_means l bases x)
+
+pub meet_answers : {E : Type 0} (r : Result AVal E) (v w : AVal) → IsSound v → IsSound w → IfOk r (λ u. u ≡ meet_values v w) →
+    IfOk r (λ u. (l : Layout) (x : Value) → Means l v x → Means l w x → Means l u x)
+meet_answers (Err e) v w s t h = tt
+meet_answers (Ok u) v w s t h = λ l x m n. subst (λ z. Means l z x) (sym h) (meet_means l v w x s t m n)
+
+pub meet_answers_first : {E : Type 0} (r : Result AVal E) (v w : AVal) → IfOk r (λ u. u ≡ meet_values v w) → IfOk r (λ u. value_in u v ≡ true)
+meet_answers_first (Err e) v w h = tt
+meet_answers_first (Ok u) v w h = subst (λ z. value_in z v ≡ true) (sym h) (meet_first v w)

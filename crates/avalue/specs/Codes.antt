@@ -5,6 +5,7 @@ use Rattle.std.specs.Coded.{Coded, code_by, coded×, coded⊎, coded_ℕ, coded_
 use Rattle.ival_core.specs.declared.value.Ival.{Ival}
 use Rattle.ival_core.specs.contracts.value.Ival as ival
 use Rattle.avalue_base.specs.Values.{Address, AVal, Separate, Mixed, Cellv}
+use Rattle.avalue_base.specs.Hues.{Hue}
 
 abbrev pub address_code : Coded Address
 address_code =
@@ -28,3 +29,6 @@ value_code = code_by ((Ival × List Address) ⊎ List ℕ) (coded⊎ (coded× iv
 abbrev pub cell_code : Coded Cellv
 cell_code =
     code_by (AVal × (Bool × Bool)) (coded× value_code (coded× coded_bool coded_bool)) (λ c. (c.value, (c.uninit, c.dead))) (λ p. record { value = p.0; uninit = p.1.0; dead = p.1.1 }) (λ _. refl)
+
+abbrev pub hue_code : Coded Hue
+hue_code = code_by (List ℕ × (Bool × Bool)) (coded× (coded_list coded_ℕ) (coded× coded_bool coded_bool)) (λ h. (h.bases, (h.uninit, h.dead))) (λ p. record { bases = p.0; uninit = p.1.0; dead = p.1.1 }) (λ _. refl)

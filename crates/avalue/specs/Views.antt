@@ -17,6 +17,12 @@ abbrev pub numbers_in : AVal → Option Ival
 numbers_in (Separate numbers addresses) = Some numbers
 numbers_in (Mixed bases) = None
 
+-- the numbers of a value that has nothing else
+abbrev pub numbers_alone : AVal → Option Ival
+numbers_alone (Separate numbers []) = Some numbers
+numbers_alone (Separate numbers (a ∷ addresses)) = None
+numbers_alone (Mixed bases) = None
+
 abbrev pub addresses_of : AVal → List Address
 addresses_of (Separate numbers addresses) = addresses
 addresses_of (Mixed bases) = []
@@ -24,6 +30,11 @@ addresses_of (Mixed bases) = []
 abbrev pub members_of : AVal → List ℕ
 members_of (Separate numbers addresses) = []
 members_of (Mixed bases) = bases
+
+-- with these numbers in place of its own; a mix as it is
+abbrev pub renumbered : AVal → Ival → AVal
+renumbered (Separate numbers addresses) n = Separate n addresses
+renumbered (Mixed bases) n = Mixed bases
 
 -- a base's address with offsets, if there are any
 abbrev pub address_value : ℕ → Ival → AVal

@@ -1,17 +1,13 @@
-//! What cells tell bit by bit, and cells made of parts.
-ghost use Rattle.std.specs.Prelude.{◌≡◌, ◌≤◌, ◌+◌, IfOk};
+//! What values tell bit by bit.
+ghost use Rattle.std.specs.Prelude.{◌≡◌, ◌<◌, ◌≤◌, length};
 ghost use Rattle.avalue_base.specs.Lists.{all_among};
-ghost use Rattle.avalue_base.specs.Numbers.{part_of};
 ghost use Rattle.avalue_base.specs.Values.{bases_of};
-ghost use Rattle.avalue_base.specs.Pieces.{value_piece};
+ghost use Rattle.avalue_base.specs.Hues.{bit_in, value_admits, value_has, value_number};
 
-use crate::Mem;
 use crate::keyed::ByKey;
 use crate::lists::is_all_in;
-use crate::value::{AVal, mixed};
-use ival_bits::extract;
-use ival_core::Ival;
-use std::alloc::Global;
+use crate::sets::{has_residue, has_row, known_bit, number_of};
+use crate::value::AVal;
 
 impl AVal {
     /// Whether the bases from whose addresses its values may be made are among the other's.
@@ -30,27 +26,41 @@ impl AVal {
         }
     }
 
-    /// `count` bits of the values, from bit `low` on; of addresses only their bases are told.
-    pub(crate) fn piece(&self, alloc: Global, low: u32, count: u32) -> Mem<AVal>
-        requires { low + count ≤ 64 }
-        ensures { IfOk result (λ v. v ≡ value_piece low count self.now) }
+    /// Whether an element of so many bits allows all bits that are made from the other's bases.
+    pub(crate) fn admits(&self, bits: u64, o: &AVal) -> bool
+        ensures { result ≡ value_admits bits self.now (bases_of o.now) }
     {
         match self.numbers() {
-            None => self.duplicate(alloc),
+            None => o.bases_in(self),
             Some(numbers) => {
-                if self.addresses().is_empty() {
-                    return Ok(AVal::number(part(numbers, low, count)));
+                if !o.is_plain() {
+                    return false;
                 }
-                Ok(mixed(self.bases(alloc)?))
+                has_row(numbers, bits)
             }
         }
     }
-}
 
-/// `count` bits of each number, from bit `low` on.
-fn part(numbers: &Ival, low: u32, count: u32) -> Ival
-    requires { low + count ≤ 64 }
-    ensures { result ≡ part_of low count numbers.now }
-{
-    extract(numbers, low, count)
+    /// The bit at an index of elements of so many bits, where there is one value alone, a number.
+    pub(crate) fn known_bit(&self, bits: u64, index: u64) -> Option<bool>
+        requires few { bits ≤ 64 }
+        requires inside { index < bits }
+        ensures { result ≡ bit_in bits index (value_number self.now) }
+    {
+        match self.numbers_alone() {
+            None => None,
+            Some(numbers) => known_bit(numbers, bits, index),
+        }
+    }
+
+    /// Whether an element of as many bits may have these bits, made from no address.
+    pub(crate) fn has_bits(&self, bits: &[bool]) -> bool
+        requires { length bits.now ≤ 64 }
+        ensures { result ≡ value_has (length bits.now) self.now bits.now }
+    {
+        match self.numbers() {
+            None => true,
+            Some(numbers) => has_residue(numbers, bits.len() as u32, number_of(bits)),
+        }
+    }
 }

@@ -1,11 +1,12 @@
 //! Cells.
-ghost use Rattle.std.specs.Prelude.{◌≡◌, ℕ, true, IsTrue, IfOk, List, [], ◌∷◌, map};
+ghost use Rattle.std.specs.Prelude.{◌≡◌, ◌≢◌, ℕ, true, IsTrue, IsFalse, IfOk, List, [], ◌∷◌, map};
 ghost use Rattle.c_memory.specs.Layouts.{Layout};
 ghost use Rattle.c_memory.specs.Values.{Cell, wither};
 ghost use Rattle.avalue_base.specs.Meaning.{Allows};
 ghost use Rattle.avalue_base.specs.Ops.{Fine};
 ghost use Rattle.avalue_base.specs.Order.{leq, join, implies as flag_in};
 ghost use Rattle.avalue_base.specs.Hues.{blank};
+ghost use Rattle.avalue_base.specs.Meets.{meet};
 ghost use Rattle.avalue_base.specs.Pieces.{no_value};
 ghost use Rattle.avalue_base.specs.Deaths.{forgotten};
 ghost use Rattle.avalue.specs.Views.{held_value};
@@ -38,14 +39,14 @@ impl Model for Cellv {
 }
 
 /// No value.
-fn nothing() -> AVal
+pub(crate) fn nothing() -> AVal
     ensures { result ≡ no_value }
 {
     AVal::number(Ival::empty())
 }
 
 /// The value, or none.
-fn held<'a>(value: &'a Option<AVal>, none: &'a AVal) -> &'a AVal
+pub(crate) fn held<'a>(value: &'a Option<AVal>, none: &'a AVal) -> &'a AVal
     requires { none.now ≡ no_value }
     ensures { result.now ≡ held_value value.now }
 {
@@ -55,7 +56,7 @@ fn held<'a>(value: &'a Option<AVal>, none: &'a AVal) -> &'a AVal
     }
 }
 
-fn implies(a: bool, b: bool) -> bool
+pub(crate) fn implies(a: bool, b: bool) -> bool
     ensures { result ≡ flag_in a b }
 {
     if a { b } else { true }
@@ -84,7 +85,7 @@ impl Cellv {
         self.join_parts(alloc, o)
     }
 
-    fn join_parts(&self, alloc: Global, o: &Cellv) -> Mem<Cellv>
+    pub(crate) fn join_parts(&self, alloc: Global, o: &Cellv) -> Mem<Cellv>
         ensures { IfOk result (λ c. c ≡ join self.now o.now) }
     {
         let none = nothing();
@@ -93,6 +94,19 @@ impl Cellv {
             value: Some(value),
             uninit: self.uninit || o.uninit,
             dead: self.dead || o.dead,
+        })
+    }
+
+    /// The values of both, and the flags of both.
+    pub fn meet(&self, alloc: Global, o: &Cellv) -> Mem<Cellv>
+        ensures value { IfOk result (λ c. c ≡ meet self.now o.now) }
+    {
+        let none = nothing();
+        let value = held(&self.value, &none).meet_parts(alloc, held(&o.value, &none))?;
+        Ok(Cellv {
+            value: Some(value),
+            uninit: self.uninit && o.uninit,
+            dead: self.dead && o.dead,
         })
     }
 
@@ -105,7 +119,7 @@ impl Cellv {
         self.parts_included(o)
     }
 
-    fn parts_included(&self, o: &Cellv) -> bool
+    pub(crate) fn parts_included(&self, o: &Cellv) -> bool
         ensures { result ≡ leq self.now o.now }
     {
         let none = nothing();
@@ -116,6 +130,21 @@ impl Cellv {
             return false;
         }
         implies(self.dead, o.dead)
+    }
+
+    /// Whether both are the same cell.
+    pub(crate) fn same_parts(&self, o: &Cellv) -> bool
+        ensures same { IsTrue result → self.now ≡ o.now }
+        ensures other { IsFalse result → self.now ≢ o.now }
+    {
+        let none = nothing();
+        if self.uninit != o.uninit {
+            return false;
+        }
+        if self.dead != o.dead {
+            return false;
+        }
+        held(&self.value, &none).is_same(held(&o.value, &none))
     }
 
     /// Whether it has no value, at most flags.
@@ -140,7 +169,7 @@ impl Cellv {
     {
         let none = nothing();
         let old = held(&self.value, &none);
-        let value = old.forget_base(alloc, base)?;
+        let value = old.left_of(alloc, base)?;
         Ok(Cellv {
             value: Some(value),
             uninit: self.uninit,

@@ -1,5 +1,5 @@
 //! What stands in lists in ascending order of a key.
-ghost use Rattle.std.specs.Prelude.{◌≡◌, ℕ, Bool};
+ghost use Rattle.std.specs.Prelude.{◌≡◌, ℕ, Bool, Option};
 
 /// An element of such a list.
 pub(crate) trait Keyed: Sized + Drop + Default {
@@ -26,6 +26,27 @@ pub(crate) trait Compares<X, Y> {
 
     fn is_in(&self, x: &X, y: &Y) -> bool
         ensures { result ≡ lies_in x.now y.now };
+}
+
+/// What elements with one key have in common.
+pub(crate) trait Picks<X, Y> {
+    ghost picked: { X → Y → Option X };
+
+    fn pick(&self, x: &X, y: &Y) -> Option<X>
+        ensures { result ≡ picked x.now y.now };
+}
+
+/// The first element.
+pub(crate) struct First;
+
+impl<X: Keyed, Y> Picks<X, Y> for First {
+    ghost use Rattle.std.specs.Prelude.{Some};
+
+    ghost picked = { λ x y. Some x };
+
+    fn pick(&self, x: &X, y: &Y) -> Option<X> {
+        Some(x.copy())
+    }
 }
 
 /// By their keys alone.

@@ -9,13 +9,18 @@ mod cell;
 mod element;
 mod keyed;
 mod lists;
+mod maps;
+mod meets;
 mod mix;
 mod part;
+mod pieces;
 mod row;
+mod sets;
 mod value;
 
 pub use cell::Cellv;
 pub use element::Address;
+pub use maps::Hue;
 pub use part::Part;
 pub use row::{Entry, Places, Row, Target};
 use std::alloc::AllocError;

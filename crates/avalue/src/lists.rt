@@ -2,10 +2,11 @@
 ghost use Rattle.std.specs.Prelude.{◌≡◌, ◌+◌, ◌++◌, ◌∷◌, ◌<◌, ◌≤◌, false, IfOk, OnOk, IfSome, IfNone, drop, length, map};
 ghost use Rattle.avalue_base.specs.Deaths.{without};
 ghost use Rattle.avalue_base.specs.Lists.{merged, has_base};
+ghost use Rattle.avalue_base.specs.Meets.{common};
 ghost use Rattle.avalue.specs.Walks.{all_in};
 
 use crate::Mem;
-use crate::keyed::{Compares, Keyed};
+use crate::keyed::{Compares, Keyed, Picks};
 use smallvec::SmallVec;
 use std::alloc::Global;
 
@@ -93,6 +94,72 @@ pub(crate) fn union<T: Keyed, const N: usize>(
     }
     push_rest(&mut list, xs, at.left)?;
     push_rest(&mut list, ys, at.right)?;
+    Ok(list)
+}
+
+/// Adds what the next elements of two lists have in common, if they have one key, and goes on.
+fn push_common<R: Picks<X, Y>, X: Keyed, Y: Keyed, const N: usize>(
+    rule: &R,
+    list: &mut SmallVec<X, N>,
+    xs: &[X],
+    ys: &[Y],
+    at: Cursors,
+) -> Mem<Cursors>
+    requires left { at.left < length xs.now }
+    requires right { at.right < length ys.now }
+    ensures same { OnOk result (IfOk result (λ next.
+        list.new.items ++ common X.key_of Y.key_of R.picked (drop next.left xs.now) (drop next.right ys.now)
+        ≡ list.old.items ++ common X.key_of Y.key_of R.picked (drop at.left xs.now) (drop at.right ys.now))) }
+    ensures left { IfOk result (λ next. next.left ≤ length xs.now) }
+    ensures right { IfOk result (λ next. next.right ≤ length ys.now) }
+    ensures on { IfOk result (λ next. at.left + at.right < next.left + next.right) }
+{
+    let x = &xs[at.left];
+    let y = &ys[at.right];
+    if y.key() < x.key() {
+        return Ok(Cursors {
+            left: at.left,
+            right: at.right + 1,
+        });
+    }
+    if x.key() < y.key() {
+        return Ok(Cursors {
+            left: at.left + 1,
+            right: at.right,
+        });
+    }
+    match rule.pick(x, y) {
+        None => Ok(Cursors {
+            left: at.left + 1,
+            right: at.right + 1,
+        }),
+        Some(both) => {
+            list.push(both)?;
+            Ok(Cursors {
+                left: at.left + 1,
+                right: at.right + 1,
+            })
+        }
+    }
+}
+
+/// What two lists have in common.
+pub(crate) fn common<R: Picks<X, Y>, X: Keyed, Y: Keyed, const N: usize>(
+    alloc: Global,
+    rule: &R,
+    xs: &[X],
+    ys: &[Y],
+) -> Mem<SmallVec<X, N>>
+    ensures { IfOk result (λ list. list.items ≡ common X.key_of Y.key_of R.picked xs.now ys.now) }
+{
+    let mut list = SmallVec::new(alloc);
+    let mut at = Cursors { left: 0, right: 0 };
+    while at.left < xs.len() {
+        if at.right == ys.len() {
+            return Ok(list);
+        }
+        at = push_common(rule, &mut list, xs, ys, at)?;
+    }
     Ok(list)
 }
 

@@ -1,7 +1,11 @@
 //! Mixes of given bases.
-ghost use Rattle.std.specs.Prelude.{◌≡◌, ◌≤◌, false, IfOk, length, map};
+ghost use Rattle.std.specs.Prelude.{◌≡◌, ◌↔◌, ◌≤◌, ℕ, true, false, IfOk, length, map};
+ghost use Rattle.std.specs.FinSet.{contains};
+ghost use Rattle.c_memory.specs.Layouts.{Layout};
+ghost use Rattle.c_memory.specs.Values.{Value};
+ghost use Rattle.avalue_base.specs.Meaning.{Means};
 ghost use Rattle.c_base.specs.declared.number.BaseId.{BaseId as PlainId};
-ghost use Rattle.avalue_base.specs.Lists.{gathered};
+ghost use Rattle.avalue_base.specs.Lists.{gathered, has_base};
 ghost use Rattle.avalue_base.specs.Numbers.{is_empty_list};
 ghost use Rattle.avalue_base.specs.Values.{Mixed};
 
@@ -16,6 +20,15 @@ use std::alloc::Global;
 impl AVal {
     /// Anything made from the addresses of these bases, given in any order.
     pub fn mix(alloc: Global, bases: &[BaseId]) -> Mem<AVal>
+        requires { is_empty_list bases.now ≡ false }
+        ensures value { IfOk result (λ v. v ≡ Mixed (gathered (map (λ (b : PlainId). b.0) bases.now))) }
+        ensures meaning { IfOk result (λ v. (l : Layout) (x : Value) → Means l v x
+            ↔ ((q : ℕ) → contains x.provenance q ≡ true → has_base (map (λ (b : PlainId). b.0) bases.now) q ≡ true)) }
+    {
+        AVal::mix_of(alloc, bases)
+    }
+
+    fn mix_of(alloc: Global, bases: &[BaseId]) -> Mem<AVal>
         requires { is_empty_list bases.now ≡ false }
         ensures { IfOk result (λ v. v ≡ Mixed (gathered (map (λ (b : PlainId). b.0) bases.now))) }
     {

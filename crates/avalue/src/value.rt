@@ -1,18 +1,19 @@
 //! Values.
-ghost use Rattle.std.specs.Prelude.{◌≡◌, ◌⊎◌, true, false, IsTrue, IfOk, [], map};
+ghost use Rattle.std.specs.Prelude.{◌≡◌, ◌≢◌, ◌⊎◌, true, false, IsTrue, IsFalse, IfOk, IfNone, [], map};
 ghost use Rattle.std.specs.List.{list_all};
 ghost use Rattle.avalue_base.specs.Pieces.{has_offsets};
 ghost use Rattle.std.specs.Option.{option_copied};
 ghost use Rattle.c_memory.specs.Layouts.{Layout};
 ghost use Rattle.c_memory.specs.Values.{Value};
-ghost use Rattle.avalue_base.specs.Meaning.{Means};
+ghost use Rattle.std.specs.FinSet.{contains};
+ghost use Rattle.avalue_base.specs.Meaning.{IsWord, Means};
 ghost use Rattle.avalue_base.specs.Lists.{AreAscending, has_base};
 ghost use Rattle.avalue_base.specs.Numbers.{is_empty, is_empty_list, words};
 ghost use Rattle.avalue_base.specs.Values.{AVal as PlainVal, Separate, Mixed, base_of, bases_of, has_no_value};
 ghost use Rattle.avalue_base.specs.Deaths.{value_left, mix_or_words};
 ghost use Rattle.avalue_base.specs.Order.{value_in, join_values};
 ghost use Rattle.avalue_base.specs.Ops.{IsSound};
-ghost use Rattle.avalue.specs.Views.{numbers_in, addresses_of, members_of, address_value, IsMixed};
+ghost use Rattle.avalue.specs.Views.{numbers_in, numbers_alone, addresses_of, members_of, address_value, IsMixed};
 
 use crate::Mem;
 use crate::element::{Address, ByOffsets, Member, is_included, joined};
@@ -202,7 +203,7 @@ impl AVal {
             None => self.join_mix(alloc, o),
             Some(numbers) => match o.numbers() {
                 None => self.join_mix(alloc, o),
-                Some(others) => Ok(separate(
+                Some(others) => Ok(AVal::separate(
                     joined(numbers, others),
                     union(alloc, self.addresses(), o.addresses())?,
                 )),
@@ -234,20 +235,65 @@ fn bases_among(alloc: Global, addresses: &[Address]) -> Mem<SmallVec<Member, 4>>
     Ok(list)
 }
 
-/// Numbers beside addresses.
-fn separate(numbers: Ival, addresses: SmallVec<Address, 1>) -> AVal
-    requires sound { IsSound (Separate numbers addresses.items) }
-    ensures { result ≡ Separate numbers addresses.items }
-{
-    if addresses.is_empty() {
-        return AVal::number(numbers);
-    }
-    AVal {
-        content: Content::Addresses(numbers, addresses),
-    }
-}
-
 impl AVal {
+    /// Numbers that were made from no address, and addresses by ascending base, each with an offset.
+    pub fn separate(numbers: Ival, addresses: SmallVec<Address, 1>) -> AVal
+        requires sound { IsSound (Separate numbers addresses.items) }
+        ensures { result ≡ Separate numbers addresses.items }
+    {
+        if addresses.is_empty() {
+            return AVal::number(numbers);
+        }
+        AVal {
+            content: Content::Addresses(numbers, addresses),
+        }
+    }
+
+    /// What is true of every value: bases ascend, each address has an offset, and a mix has a base.
+    pub fn soundness(&self)
+        ensures { IsSound self.now }
+    {
+        let _content = &self.content;
+    }
+
+    /// Whether both are the same value.
+    pub fn is_same(&self, o: &AVal) -> bool
+        ensures same { IsTrue result → self.now ≡ o.now }
+        ensures other { IsFalse result → self.now ≢ o.now }
+    {
+        self.soundness();
+        o.soundness();
+        if !self.parts_included(o) {
+            return false;
+        }
+        o.parts_included(self)
+    }
+
+    /// Whether no value may be made from an address.
+    pub fn is_plain(&self) -> bool
+        ensures { result ≡ is_empty_list (bases_of self.now) }
+    {
+        match &self.content {
+            Content::Number(_) => true,
+            Content::Addresses(_, list) => list.is_empty(),
+            Content::Mix(list) => list.is_empty(),
+        }
+    }
+
+    /// The numbers, where there is nothing else.
+    pub fn numbers_alone(&self) -> Option<&Ival>
+        ensures value { option_copied result ≡ numbers_alone self.now }
+        ensures none { IfNone result (is_empty_list (bases_of self.now) ≡ false) }
+    {
+        match &self.content {
+            Content::Number(numbers) => Some(numbers),
+            Content::Addresses(numbers, list) => {
+                if list.is_empty() { Some(numbers) } else { None }
+            }
+            Content::Mix(_) => None,
+        }
+    }
+
     /// Whether there is no value.
     pub fn is_nothing(&self) -> bool
         ensures { result ≡ has_no_value self.now }
@@ -278,11 +324,19 @@ impl AVal {
 
     /// What is left of the values when a base has died: those that were not made from its address.
     pub fn forget_base(&self, alloc: Global, base: BaseId) -> Mem<AVal>
+        ensures value { IfOk result (λ v. v ≡ value_left base.0 self.now) }
+        ensures meaning { IfOk result (λ v. (l : Layout) (x : Value) → Means l self.now x →
+            contains x.provenance base.0 ≡ false → IsWord x.number → Means l v x) }
+    {
+        self.left_of(alloc, base)
+    }
+
+    pub(crate) fn left_of(&self, alloc: Global, base: BaseId) -> Mem<AVal>
         ensures { IfOk result (λ v. v ≡ value_left base.0 self.now) }
     {
         match &self.content {
             Content::Number(numbers) => Ok(AVal::number(numbers.copy())),
-            Content::Addresses(numbers, list) => Ok(separate(
+            Content::Addresses(numbers, list) => Ok(AVal::separate(
                 numbers.copy(),
                 without(alloc, list.as_slice(), base.0)?,
             )),

@@ -12,3 +12,5 @@ pub mod Forgetting
 pub mod Means
 pub mod Alone
 pub mod Stores
+pub mod Meets
+pub mod Leaving

@@ -24,7 +24,7 @@ means_among l [] x m = absurd m
 means_among l (a ∷ xs) x (inl m) = (a, inl refl, m)
 means_among l (a ∷ xs) x (inr m) = let r = means_among l xs x m in (r.0, inr r.1, r.2)
 
-among_means : (l : Layout) (xs : List Address) (x : Value) (a : Address) → In xs a → MeansAddress l a x → MeansSome l xs x
+pub among_means : (l : Layout) (xs : List Address) (x : Value) (a : Address) → In xs a → MeansAddress l a x → MeansSome l xs x
 among_means l [] x a i m = absurd i
 among_means l (b ∷ xs) x a (inl e) m = inl (subst (λ z. MeansAddress l z x) e m)
 among_means l (b ∷ xs) x a (inr i) m = inr (among_means l xs x a i m)

@@ -94,11 +94,11 @@ pub gathered_ascending : (bs : List ℕ) → AreAscending (λ b. b) (gathered bs
 gathered_ascending [] = tt
 gathered_ascending (b ∷ bs) = union_ascending (b ∷ []) (gathered bs) ((λ y i. absurd i), tt) (gathered_ascending bs)
 
-gathered_In : (bs : List ℕ) (q : ℕ) → In (gathered bs) q → In bs q
+pub gathered_In : (bs : List ℕ) (q : ℕ) → In (gathered bs) q → In bs q
 gathered_In [] q i = i
 gathered_In (b ∷ bs) q i = elim (union_In (b ∷ []) (gathered bs) q i) [ inl (inl e) ↦ inl e | inl (inr j) ↦ absurd j | inr j ↦ inr (gathered_In bs q j) ]
 
-In_gathered : (bs : List ℕ) (q : ℕ) → In bs q → In (gathered bs) q
+pub In_gathered : (bs : List ℕ) (q : ℕ) → In bs q → In (gathered bs) q
 In_gathered (b ∷ bs) q (inl e) = In_union (b ∷ []) (gathered bs) q (inl (inl e))
 In_gathered (b ∷ bs) q (inr i) = In_union (b ∷ []) (gathered bs) q (inr (In_gathered bs q i))
 In_gathered [] q i = i

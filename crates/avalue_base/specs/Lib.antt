@@ -8,3 +8,4 @@ pub mod Meaning
 pub mod Ops
 pub mod Deaths
 pub mod Singles
+pub mod Meets

@@ -1,5 +1,5 @@
 -- What values and cells mean in a layout.
-use Rattle.std.specs.Prelude.{ℕ, ◌^◌, ◌≡◌, ◌⊎◌, Bool, true, false, List, [], ◌∷◌, length, ℤ, pos, ◌+ℤ◌}
+use Rattle.std.specs.Prelude.{ℕ, ◌^◌, ◌≡◌, ◌⊎◌, Bool, true, false, List, [], ◌∷◌, length, ℤ, pos, ◌+ℤ◌, ◌≤ℤ◌, ◌<ℤ◌}
 use Rattle.std.specs.List.{AllByRecursion, list_any}
 use Rattle.std.specs.FinSet.{contains}
 use Rattle.c_base.specs.Integers.{residue}
@@ -26,6 +26,11 @@ MeansSome l (a ∷ addresses) x = MeansAddress l a x ⊎ MeansSome l addresses x
 abbrev pub Means : Layout → AVal → Value → Type 0
 Means l (Separate numbers addresses) x = ((x.provenance ≡ nowhere) × Holds numbers x.number) ⊎ MeansSome l addresses x
 Means l (Mixed bases) x = (q : ℕ) → contains x.provenance q ≡ true → has_base bases q ≡ true
+
+-- the number has 64 bits
+pub record IsWord (n : ℤ) : Type 0 where
+  pub low : pos 0 ≤ℤ n
+  pub high : n <ℤ pos (2 ^ 64)
 
 abbrev pub AllowsBy : Layout → Cellv → Bool → List Cell → Type 0
 AllowsBy l c true cells = AllByRecursion (IsFlagged (row_cell c)) cells

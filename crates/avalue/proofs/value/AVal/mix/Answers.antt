@@ -1,8 +1,7 @@
-use Rattle.avalue.proofs.Mixes.{mix_order, mix_some}
+use Rattle.std.proofs.Common.{map}
+use Rattle.c_base.specs.declared.number.BaseId.{BaseId}
+use Rattle.avalue.proofs.Values.{mix_answers}
 use Rattle.avalue.proofs.value.AVal.mix.Goals as goal
 
-pub mixed-requires-clause-order : goal.mixed-requires-clause-order
-mixed-requires-clause-order c = mix_order c.args.bases.now c.in_ok-members.members.items c.in_ok-members.ensures
-
-pub mixed-requires-clause-some : goal.mixed-requires-clause-some
-mixed-requires-clause-some c = mix_some c.args.bases.now c.in_ok-members.members.items c.in_ok-members.ensures c.requires
+pub returns-clause-meaning : goal.returns-clause-meaning
+returns-clause-meaning c = mix_answers c.mix_of.result (map (λ (b : BaseId). b.0) c.args.bases.now) c.mix_of.ensures

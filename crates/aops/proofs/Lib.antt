@@ -1,0 +1,4 @@
+pub mod Sorts
+pub mod Possible
+pub mod Giving
+pub mod Converting

@@ -1,0 +1,4 @@
+pub mod Promises
+pub mod Numbers
+pub mod Integers
+pub mod Converted

@@ -1,0 +1,9 @@
+//! C's operators on values that may hold addresses: those on integer types, and conversions (C11 6.3, 6.5).
+#![tactic(auto)]
+
+mod convert;
+mod integers;
+mod numbers;
+
+pub use convert::converted;
+pub use integers::{Computed, on_integers};
