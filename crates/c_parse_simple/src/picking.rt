@@ -1,16 +1,20 @@
 //! Which statement it is.
-ghost use Rattle.std.specs.Prelude.{◌≡◌, ◌&&◌, ◌||◌, drop, not};
+ghost use Rattle.std.specs.Prelude.{◌≡◌, ◌&&◌, ◌||◌, drop, not, IfOk};
+ghost use Rattle.c_base.specs.declared.token.Keyword.TheVariants as key;
 ghost use Rattle.c_base.specs.declared.token.Punctuator.TheVariants as mark;
 ghost use Rattle.c_parse_rules.specs.Declaring.{starts};
-ghost use Rattle.c_parse_rules.specs.Tokens.{is_mark};
+ghost use Rattle.c_parse_rules.specs.Tokens.{is_key, is_mark};
+ghost use Rattle.c_parse_rules.specs.TypeRules.{attribute_at};
 ghost use Rattle.c_grammar.specs.Picking.{statement_rule};
-ghost use Rattle.c_grammar.specs.Table.{begins_declaration, is_name};
+ghost use Rattle.c_grammar.specs.Table.{before_semicolon, begins_declaration, is_name, on_block_declaration};
 
 use c_base::token::{Keyword, Punctuator, Token, Word};
 use c_grammar::rule::Rule;
+use c_parse_attributes::attribute_behind;
 use c_parse_base::names::TypeNames;
 use c_parse_base::words::{is_keyword, is_type_at};
 use c_parse_initialisers::parts::{on_keyword, on_punctuator};
+use std::alloc::{AllocError, Global};
 
 /// The rule of the statement that begins with this word, before these tokens.
 pub fn statement_rule(word: &Word, rest: &[Token]) -> Rule
@@ -58,5 +62,56 @@ pub fn on_label(tokens: &[Token]) -> bool
             Word::Identifier(_) => on_punctuator(rest, Punctuator::Colon),
             _ => false,
         },
+    }
+}
+
+/// One attribute and `;` stand there.
+pub fn on_attribute(alloc: Global, tokens: &[Token]) -> Result<bool, AllocError>
+    ensures { IfOk result (λ r. r ≡ before_semicolon (attribute_at tokens.now)) }
+{
+    match tokens.split_first() {
+        None => Ok(false),
+        Some((first, inside)) => {
+            if !is_keyword(&first.word, Keyword::Attribute) {
+                return Ok(false);
+            }
+            match attribute_behind(alloc, first.span, inside)? {
+                None => Ok(false),
+                Some((_, rest)) => Ok(on_punctuator(rest, Punctuator::Semicolon)),
+            }
+        }
+    }
+}
+
+/// A declaration stands there in a block: what begins as one, and is neither a label nor one attribute and `;`.
+pub fn on_block_declaration(
+    alloc: Global,
+    names: &TypeNames,
+    tokens: &[Token],
+) -> Result<bool, AllocError>
+    ensures { IfOk result (λ r. r ≡ on_block_declaration names.now.names tokens.now) }
+{
+    if !on_declaration(names, tokens) {
+        return Ok(false);
+    }
+    if on_label(tokens) {
+        return Ok(false);
+    }
+    Ok(!on_attribute(alloc, tokens)?)
+}
+
+/// `else if` stands there.
+pub fn on_else_if(tokens: &[Token]) -> bool
+    ensures { result ≡ (starts (is_key key.Else) tokens.now && starts (is_key key.If) (drop 1 tokens.now)) }
+{
+    match tokens.split_first() {
+        None => false,
+        Some((first, rest)) => {
+            if is_keyword(&first.word, Keyword::Else) {
+                on_keyword(rest, Keyword::If)
+            } else {
+                false
+            }
+        }
     }
 }
