@@ -1,0 +1,4 @@
+mod Steps
+mod Units
+mod Ends
+mod Read
