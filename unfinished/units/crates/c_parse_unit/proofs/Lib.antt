@@ -1,4 +1,0 @@
-mod Steps
-mod Units
-mod Ends
-mod Read
