@@ -1,7 +1,13 @@
 mod Leading
 mod Asking
 mod Jumping
-mod Runs
+pub mod Runs
 mod Determinism
 mod Zeros
 mod Going
+mod Starts
+mod Living
+mod InScopes
+mod Leaving
+mod Scopes
+mod Accesses

@@ -4,3 +4,4 @@ pub mod Unfolding
 pub mod Parts
 pub mod Machine
 pub mod Laws
+pub mod Accesses

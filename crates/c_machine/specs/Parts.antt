@@ -3,7 +3,7 @@ use Rattle.std.specs.Prelude.{ℕ, zero, suc, ◌*◌, ◌&&◌, Bool, true, fal
 use Rattle.c_base.specs.declared.integer.IntKind.{IntKind}
 use Rattle.c_base.specs.declared.integer.IntKind.TheVariants.{Int}
 use Rattle.c_base.specs.declared.operators.BinOp.{BinOp}
-use Rattle.c_base.specs.declared.operators.BinOp.TheVariants.{Add, Sub, Lt, Le, Gt, Ge, Eq, Ne}
+use Rattle.c_base.specs.declared.operators.BinOp.TheVariants.{Add, Sub}
 use Rattle.c_base.specs.declared.kind.Kind.{Kind}
 use Rattle.c_base.specs.declared.kind.Kind.TheVariants.{Initialization, IndexBound, FunctionPointer}
 use Rattle.c_base.specs.Integers.{size_of_kind}
@@ -22,6 +22,7 @@ use Rattle.c_pointers.specs.Pointers.{moved, moved_back, difference, comparison,
 use Rattle.c_effects.specs.Ranges.{read}
 use Rattle.c_effects.specs.Passing.{Argument, Whole, Parts}
 use Rattle.c_program.specs.Syntax.{base_at, Program}
+use Rattle.c_program.specs.Typing.{is_pointer}
 use Rattle.c_program.specs.StaticCalls.{is_function_of}
 use Rattle.c_machine.specs.Work.{Held, Usable, Unusable, Cells, Absent, Part}
 
@@ -119,10 +120,6 @@ increased p l up (Function result params variadic) v = Ok v
 abbrev pub target_size : Program → Layout → CType → ℕ
 target_size p l (Pointer to) = size p.composites l.machine to
 target_size p l t = 0
-
-abbrev pub is_pointer : CType → Bool
-is_pointer (Pointer to) = true
-is_pointer t = false
 
 -- an operator with a pointer among its operands, of these types (C11 6.5.6, 6.5.8, 6.5.9)
 abbrev pub on_pointers : Program → Layout → BinOp → CType → CType → Value → Value → Result Value Kind

@@ -3,4 +3,7 @@
 
 pub mod laws;
 
-pub use laws::{goes_on, is_deterministic};
+pub use laws::{
+    goes_on, has_layout, has_start, is_deterministic, lives_in_scopes, loads_stored, one_base_fits,
+    stores_within,
+};

@@ -9,6 +9,7 @@ use Rattle.c_program.specs.Typed.{IsTyped}
 use Rattle.c_program.specs.Flow.{IsFlowing}
 use Rattle.c_program.specs.StaticCalls.{IsAcyclic, KnowsNames}
 use Rattle.c_program.specs.Imaged.{IsImaged}
+use Rattle.c_program.specs.Numbered.{IsNumbered}
 use Rattle.c_program.specs.Marked.{IsMarked}
 use Rattle.c_program.specs.Weighed.{IsWeighed}
 use Rattle.c_program.specs.Views.{program_of}
@@ -26,5 +27,6 @@ pub record IsChecked (p : TypedProgram) : Type 0 where
   pub acyclic : IsAcyclic (program_of p)
   pub known : KnowsNames (program_of p)
   pub imaged : IsImaged (program_of p)
+  pub numbered : IsNumbered (program_of p)
   pub marked : IsMarked (program_of p)
   pub weighed : IsWeighed p

@@ -1,5 +1,6 @@
 pub mod Syntax
 pub mod Valid
+pub mod Packing
 pub mod Views
 pub mod Names
 pub mod StaticCalls
@@ -11,6 +12,7 @@ pub mod Named
 pub mod Sized
 pub mod Typed
 pub mod Imaged
+pub mod Numbered
 pub mod Marked
 pub mod Weighed
 pub mod Checked

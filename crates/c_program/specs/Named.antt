@@ -2,8 +2,8 @@
 use Rattle.std.specs.Prelude.{ℕ, ◌<◌, ◌≡◌, Bool, true, false, IsTrue, List, [], ◌∷◌, length, Option, None, Some, IsSome}
 use Rattle.std.specs.List.{AllByRecursion, list_all}
 use Rattle.c_types.specs.Types.{CType, CTypes, Void as void, Integer, Pointer, Array, Composite, Function as function, Nil, Next as NextType, Member, Composite'}
-use Rattle.c_prog.specs.declared.base.BaseSort.{BaseSort}
-use Rattle.c_prog.specs.declared.base.BaseSort.TheVariants.{Local, Formal}
+use Rattle.c_program.specs.declared.base.BaseSort.{BaseSort}
+use Rattle.c_program.specs.declared.base.BaseSort.TheVariants.{Local, Formal}
 use Rattle.c_program.specs.StaticCalls.{is_func}
 use Rattle.c_program.specs.Syntax.{Stmt, If, While, Block, DoWhile, For, Switch, Case, Label, Stmts, Done, Next, Base, base_at, Function, function_at, Outside, Program}
 

@@ -1,16 +1,13 @@
 -- Where expressions, statements and annotations name a function, other than as the function of a direct call. What stands in `sizeof` isn't
 -- evaluated, and is no part of a typed program.
-use Rattle.std.specs.Prelude.{ℕ, ◌==◌, Bool, true, false, ◌||◌, List, [], ◌∷◌, Option, None, Some}
+use Rattle.std.specs.Prelude.{ℕ, ◌==◌, Bool, false, ◌||◌, List}
 use Rattle.std.specs.List.{list_any}
 use Rattle.c_base.specs.declared.number.BaseId.{BaseId}
+use Rattle.c_types.specs.Compatible.{where_some}
 use Rattle.c_typed_term.specs.Terms as term
 use Rattle.c_typed_term.specs.Terms.{Term, Place, PointersTo, Relation, Bounds, Predicate, Assigns, Behaviour, Contract}
 use Rattle.c_typed_stmt.specs.declared.init.ImageItem.{ImageItem}
 use Rattle.c_program.specs.Syntax.{Lvalue, Variable, Pointed, Temporary, Member, Element, ElementOf, Expr, Number, Load, Binary, Assign, LoadCells, AssignCells, Address, Unary, Convert, OnPointers, Logic, Conditional, Compound, Step, Comma, Call, Exprs, NoExpr, NextExpr, Numbered, Head, Item, Value, Content, Stmt, Expression, Return, If, While, Block, Nothing, Empty, ReturnNothing, DoWhile, For, Switch, Case, Label, Goto, Break, Continue, Initialise, Assert, Stmts, Done, Next, Base, Function, Outside, Program}
-
-abbrev pub where_some : {A : Type 0} → (A → Bool) → Option A → Bool
-where_some test None = false
-where_some test (Some a) = test a
 
 module _ (f : ℕ) where
   -- ---- expressions

@@ -3,8 +3,8 @@ use Rattle.std.specs.Prelude.{ℕ, ◌^◌, ◌≤◌, ◌≡◌, Option, None, 
 use Rattle.std.specs.List.{AllByRecursion}
 use Rattle.c_types.specs.Types.{Composite', Extent}
 use Rattle.c_types.specs.Sizes.{extent, AreSized}
-use Rattle.c_prog.specs.declared.base.BaseSort.{BaseSort}
-use Rattle.c_prog.specs.declared.base.BaseSort.TheVariants.{Func}
+use Rattle.c_program.specs.declared.base.BaseSort.{BaseSort}
+use Rattle.c_program.specs.declared.base.BaseSort.TheVariants.{Func}
 use Rattle.c_program.specs.Syntax.{Base, Program}
 
 abbrev pub HasSize : Program → Base → Type 0

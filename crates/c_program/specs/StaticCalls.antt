@@ -2,8 +2,8 @@
 use Rattle.std.specs.Prelude.{ℕ, suc, ◌+◌, ◌<◌, ◌≡◌, ◌⊎◌, Bool, true, false, IsTrue, cond, ◌&&◌, List, [], ◌∷◌, Option, None, Some}
 use Rattle.c_types.specs.Types.{CType}
 use Rattle.c_types.specs.Compatible.{is_compatible, signature_of}
-use Rattle.c_prog.specs.declared.base.BaseSort.{BaseSort}
-use Rattle.c_prog.specs.declared.base.BaseSort.TheVariants.{Func}
+use Rattle.c_program.specs.declared.base.BaseSort.{BaseSort}
+use Rattle.c_program.specs.declared.base.BaseSort.TheVariants.{Func}
 use Rattle.c_program.specs.Syntax.{Lvalue, Variable, Pointed, Temporary, Member, Element, ElementOf, Expr, Number, Load, Binary, Assign, LoadCells, AssignCells, Address, Unary, Convert, OnPointers, Logic, Conditional, Compound, Step, Comma, Call, Exprs, NoExpr, NextExpr, Numbered, Head, Item, Value, Content, Stmt, Expression, Return, If, While, Block, Nothing, Empty, ReturnNothing, DoWhile, For, Switch, Case, Label, Goto, Break, Continue, Initialise, Assert, Stmts, Done, Next, Base, base_at, Function, function_at, Program}
 use Rattle.c_program.specs.Names.{is_named}
 

@@ -1,8 +1,8 @@
 -- Typed programs, as the meaning sees them: names are resolved to bases, statements are numbered in source order, each conversion is a
 -- node, and runs of operators are nested to the left. A load or a store names the scalar type of its lvalue.
 use Rattle.std.specs.Prelude.{ℕ, zero, suc, ◌+◌, ◌<◌, ◌≤◌, ◌≡◌, ◌≢◌, ◌⊎◌, ◌==◌, cond, Bool, true, false, List, [], ◌∷◌, length, ℤ, Option, None, Some}
-use Rattle.c_prog.specs.declared.base.BaseSort.{BaseSort}
-use Rattle.c_prog.specs.declared.base.BaseSort.TheVariants.{Static, Local, Formal, Text, Func, Context}
+use Rattle.c_program.specs.declared.base.BaseSort.{BaseSort}
+use Rattle.c_program.specs.declared.base.BaseSort.TheVariants.{Static, Local, Formal, Text, Func, Context}
 use Rattle.c_base.specs.declared.number.Span.{Span}
 use Rattle.c_base.specs.declared.integer.Machine.{Machine}
 use Rattle.c_memory.specs.declared.scalar.Scalar.{Scalar}

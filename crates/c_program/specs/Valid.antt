@@ -35,7 +35,34 @@ pub record IsValidFunction (p : Program) (f : Function) : Type 0 where
   pub objects : AreNew p [] (f.formals ++ f.locals)
   pub body : AreScoped p (f.formals ++ f.locals) f.body
 
--- the entry has a body, and the objects of each function are its own
+-- objects that belong to the function f
+abbrev pub AreOf : (ℕ → ℕ) → ℕ → List ℕ → Type 0
+AreOf owner f bases = (base : ℕ) → IsTrue (is_among bases base) → owner base ≡ f
+
+-- so do the objects of all blocks in a statement
+abbrev mutual
+  pub HasOwn : (ℕ → ℕ) → ℕ → Stmt → Type 0
+  HasOwn owner f (If id e s t) = HasOwn owner f s × HasOwn owner f t
+  HasOwn owner f (While id e s) = HasOwn owner f s
+  HasOwn owner f (Block bases stmts) = AreOf owner f bases × HaveOwn owner f stmts
+  HasOwn owner f (DoWhile h s) = HasOwn owner f s
+  HasOwn owner f (For h s) = HasOwn owner f s
+  HasOwn owner f (Switch id e s) = HasOwn owner f s
+  HasOwn owner f (Case value s) = HasOwn owner f s
+  HasOwn owner f (Label name s) = HasOwn owner f s
+  HasOwn owner f s = Unit {0}
+
+  pub HaveOwn : (ℕ → ℕ) → ℕ → Stmts → Type 0
+  HaveOwn owner f Done = Unit {0}
+  HaveOwn owner f (Next s more) = HasOwn owner f s × HaveOwn owner f more
+
+pub record OwnsObjects (owner : ℕ → ℕ) (f : Function) : Type 0 where
+  pub scope : AreOf owner f.base (f.formals ++ f.locals)
+  pub blocks : HaveOwn owner f.base f.body
+
+-- the entry has a body, and each object of a function or of its blocks is new there and belongs to that function alone
 pub record IsValid (p : Program) : Type 0 where
   pub entry : IsSome (function_at p.functions p.entry)
   pub functions : AllByRecursion (IsValidFunction p) p.functions
+  pub owner : ℕ → ℕ
+  pub owned : AllByRecursion (OwnsObjects owner) p.functions

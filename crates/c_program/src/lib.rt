@@ -3,6 +3,7 @@
 #![tactic(auto)]
 
 pub mod answer;
+pub mod base;
 mod copies;
 pub mod laws;
 pub mod program;

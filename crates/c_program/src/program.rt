@@ -1,9 +1,9 @@
 //! Typed programs.
 
+use crate::base::BaseSort;
 use c_base::integer::Machine;
 use c_base::name::Name;
 use c_base::number::{BaseId, Span, StmtId};
-use c_prog::base::BaseSort;
 use c_typed_expr::expr::TExpr;
 use c_typed_stmt::init::{Image, TInit};
 use c_typed_stmt::stmt::{TBlock, TStmt};

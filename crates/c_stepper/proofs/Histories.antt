@@ -7,7 +7,7 @@ use Rattle.c_memory.specs.Scalars.{size_of_scalar}
 use Rattle.c_memory.specs.Values.{Value, Uninit, value_in}
 use Rattle.c_memory.specs.Layouts.{Layout}
 use Rattle.c_memory.specs.Memories.{Memory, withered, reached, loaded, offset_in}
-use Rattle.c_prog.specs.Syntax.{numbers_from}
+use Rattle.c_program.specs.Syntax.{numbers_from}
 use Rattle.c_stepper.specs.declared.value.Cell.{Cell as CodeCell}
 use Rattle.c_stepper.specs.declared.memory.Change.{Change}
 use Rattle.c_stepper.specs.declared.memory.Change.TheVariants.{Born, Died}

@@ -4,10 +4,10 @@ use Rattle.std.proofs.lemmas.List.{length-map}
 use Rattle.std.proofs.lemmas.Bool.Decides.{nat_tests}
 use Rattle.c_memory.specs.Layouts.{Layout, last_address}
 use Rattle.c_memory.specs.Values.{Bit, nowhere}
-use Rattle.c_prog.specs.Syntax.{Base, base_at, is_static, numbers_from, AreApart, IsLayout}
-use Rattle.c_prog.specs.Packing.{bytes_of, size_at, is_readonly_at, packed, HasRoom}
-use Rattle.c_prog.proofs.Packed.{packed_layout}
-use Rattle.c_mean.specs.Machine.{first_cells, initial_memory}
+use Rattle.c_program.specs.Syntax.{Base, base_at, is_static, numbers_from, AreApart, IsLayout}
+use Rattle.c_program.specs.Packing.{bytes_of, size_at, is_readonly_at, packed, HasRoom}
+use Rattle.c_program.proofs.Packed.{packed_layout}
+use Rattle.c_machine.specs.Machine.{first_cells, image_at, imaged, initial_memory}
 use Rattle.c_stepper.specs.declared.tree.Base.{Base as CodeBase}
 use Rattle.c_stepper.specs.declared.tree.Program.{Program as CodeProgram}
 use Rattle.c_stepper.specs.declared.layout.Object.{Object}
@@ -223,10 +223,19 @@ nothing_first bs = record { each = λ l base. by_list bs base }
     by_list [] base = refl
     by_list (b ∷ bs) base = refl
 
+-- no base has an image
+no_image : (bs : List CodeBase) (base : ℕ) → image_at (base_at (map base_of bs) base) ≡ None
+no_image [] base = refl
+no_image (b ∷ bs) zero = refl
+no_image (b ∷ bs) (suc base) = no_image bs base
+
 pub first_done : (p : CodeProgram) (bs : List CodeBase) (i : ℕ) (changes : List Change) → bs ≡ p.bases → i ≡ length bs → HasFirst bs i changes →
     (l : Layout) → memory_of l changes ≡ initial_memory (program_of p) l
 first_done p bs i changes same done f l =
-    fun_ext (λ base. f.each l base ∙ ap (λ xs. first_cells (base_at (map base_of xs) base)) (ap (λ n. take n bs) done ∙ take_whole bs ∙ same))
+    fun_ext (λ base.
+    f.each l base
+    ∙ ap (λ xs. first_cells (base_at (map base_of xs) base)) (ap (λ n. take n bs) done ∙ take_whole bs ∙ same)
+    ∙ sym (ap (λ image. imaged l image (first_cells (base_at (map base_of p.bases) base))) (no_image p.bases base)))
 
 pub written_first : (n : ℕ) (b : CodeBase) (cells : List CodeCell) (before after : List Change) → is_static b.sort ≡ true → map cell_of cells ≡ replicate (8 * b.size) (Bit false nowhere 0) →
     after ≡ Written n cells ∷ before → IsFirst n b before after

@@ -1,9 +1,9 @@
 -- Where the stepper places bases, and what it writes before a run.
 use Rattle.std.specs.Prelude.{ℕ, ◌≡◌, ◌==◌, ◌+◌, cond, List, [], ◌∷◌, Option, None, Some}
 use Rattle.c_memory.specs.Layouts.{Layout}
-use Rattle.c_prog.specs.Syntax.{Program, IsLayout}
-use Rattle.c_prog.specs.Packing.{HasRoom}
-use Rattle.c_mean.specs.Machine.{first_cells}
+use Rattle.c_program.specs.Syntax.{Program, IsLayout}
+use Rattle.c_program.specs.Packing.{HasRoom}
+use Rattle.c_machine.specs.Machine.{first_cells}
 use Rattle.c_stepper.specs.declared.tree.Base.{Base}
 use Rattle.c_stepper.specs.declared.layout.Object.{Object}
 use Rattle.c_stepper.specs.declared.layout.Layout.{Layout as CodeLayout}

@@ -32,12 +32,14 @@ use Rattle.c_stepper.specs.declared.tree.ResultType.TheVariants.{Void as CodeVoi
 use Rattle.c_stepper.specs.declared.tree.Base.{Base as CodeBase}
 use Rattle.c_stepper.specs.declared.tree.Program.{Program as CodeProgram}
 use Rattle.c_base.specs.declared.kind.Kind.{Kind}
+use Rattle.c_types.specs.Types as types
 use Rattle.c_memory.specs.Layouts.{Layout}
 use Rattle.c_memory.specs.Memories.{Memory, with_base, born, died}
 use Rattle.c_memory.specs.Operations.{truth_of}
 use Rattle.c_memory.specs.Values.{Value, Provenance, Cell, Uninit, Dead, Bit}
-use Rattle.c_mean.specs.Machine.{Held, Usable, Unusable, Cells, Absent, Work, Do, Evaluate, Locate, Fetch, Store, Apply, Discard, Choose, Loop, Turn, Deliver, Body, Brace, Close, Frame, sites_of, Exit, State, Outcome, Goes, Stops, Does}
-use Rattle.c_prog.specs.Syntax.{numbers_from, Variable, Expr, Number as NumberExpr, Load, Binary, Assign, Stmt, Expression, Return, If, While, Block, Nothing, Stmts, Done, Next, ResultType, Void, Returns, Base, Function, Program}
+use Rattle.c_machine.specs.Machine.{Held, Usable, Unusable, Cells, Absent, Work, Do, Evaluate, Locate, Fetch, Store, Apply, Discard, Choose, Loop, Turn, Deliver, Body, Brace, Close, Frame, sites_of, Exit, State, Outcome, Goes, Stops, Does, Step}
+use Rattle.c_machine.specs.Unfolding.{is_volatile}
+use Rattle.c_program.specs.Syntax.{numbers_from, Variable, Expr, Number as NumberExpr, Load, Binary, Assign, Stmt, Expression, Return, If, While, Block, Nothing, Stmts, Done, Next, ResultType, Void, Returns, Base, Function, Program}
 
 abbrev pub number_of : Number → ℤ
 number_of (Natural n) = pos n
@@ -151,7 +153,16 @@ left_of dying rest None = None
 left_of dying rest (Some left) = Some (record { dying = dying; function = left.function; site = left.site; rest = rest })
 
 abbrev pub base_of : CodeBase → Base
-base_of b = record { name = b.name; size = b.size; sort = b.sort; readonly = b.readonly }
+base_of b = record {
+  name = b.name;
+  size = b.size;
+  sort = b.sort;
+  readonly = b.readonly;
+  ctype = types.Void;
+  volatile = false;
+  image = None;
+  named = false;
+}
 
 abbrev pub function_of : CodeFunction → Function
 function_of f = record {
@@ -161,6 +172,7 @@ function_of f = record {
   locals = f.locals;
   body = stmts_of f.body.value;
   end = f.end;
+  contract = None;
 }
 
 abbrev pub program_of : CodeProgram → Program
@@ -170,6 +182,11 @@ program_of p = record {
   functions = map function_of p.functions;
   entry = p.entry;
   spans = p.spans;
+  composites = [];
+  outside = [];
+  owners = [];
+  lib_entry = false;
+  marks = [];
 }
 
 abbrev pub state_option_of : Layout → Option CodeState → Option State
@@ -186,10 +203,14 @@ Answers R t CodeGoesOn = R (Goes t)
 Answers R t (CodeStopsIn kind id) = R (Stops kind id (sites_of t.control))
 Answers R t CodeStuck = (out : Outcome) → R out → ⊥
 
--- an item of work goes on so from a state without it
+-- no variable of the program is volatile
+abbrev pub IsStill : Program → Type 0
+IsStill p = (base : ℕ) → is_volatile p (Variable base) ≡ false
+
+-- an item of work goes on so from a state without it, in every such program
 abbrev pub HasEffect : CodeLayout → Work → CodeState → CodeState → Effect → Type 0
 HasEffect l work s t effect =
-    Answers (Does (layout_of l) work (map held_of s.held) (state_of (layout_of l) s)) (state_of (layout_of l) t) effect
+    (p : Program) → IsStill p → Answers (Does p (layout_of l) work (map held_of s.held) (state_of (layout_of l) s)) (state_of (layout_of l) t) effect
 
 -- a part of a step that is a function of the state goes on so
 abbrev pub Leads : CodeLayout → (State → Outcome) → CodeState → CodeState → Effect → Type 0
@@ -200,7 +221,10 @@ truth_result_of (Ok v) = Ok (truth_of v)
 truth_result_of (Err kind) = Err kind
 
 -- the same of a whole step
-abbrev pub IsStep : (Outcome → Type 0) → State → CodeOutcome → Type 0
-IsStep R t CodeGoes = R (Goes t)
-IsStep R t (CodeStops kind id sites) = R (Stops kind id sites)
-IsStep R t CodeEnds = (out : Outcome) → R out → ⊥
+abbrev pub Ends : (Outcome → Type 0) → State → CodeOutcome → Type 0
+Ends R t CodeGoes = R (Goes t)
+Ends R t (CodeStops kind id sites) = R (Stops kind id sites)
+Ends R t CodeEnds = (out : Outcome) → R out → ⊥
+
+abbrev pub IsStep : CodeLayout → CodeState → CodeState → CodeOutcome → Type 0
+IsStep l s t out = (p : Program) → IsStill p → Ends (Step p (layout_of l) (state_of (layout_of l) s)) (state_of (layout_of l) t) out

@@ -1,4 +1,4 @@
-//! A stepper that carries out the meaning of programs (`specs/Machine.antt` of c_mean), one step after the other.
+//! A stepper that carries out the meaning of programs (`specs/Machine.antt` of c_machine), one step after the other.
 #![tactic(auto)]
 
 pub mod layout;

@@ -3,7 +3,7 @@
 ghost use Rattle.std.specs.Prelude.{◌≡◌, [], ◌==◌, ◌*◌, ◌+◌, ◌<◌, ◌≤◌, ◌^◌, length, map, take, drop, replicate, find, unwrap_or, IfOk, OnOk};
 ghost use Rattle.std.specs.List.{list_any};
 ghost use Rattle.c_memory.specs.Scalars as scalars;
-ghost use Rattle.c_prog.specs.Syntax.{numbers_from};
+ghost use Rattle.c_program.specs.Syntax.{numbers_from};
 ghost use Rattle.c_memory.specs.Values as values;
 ghost use Rattle.c_memory.specs.Memories as memories;
 ghost use Rattle.c_stepper.specs.Views.{number_of, value_of, cell_of, cells_option_of, value_result_of, layout_of, object_at, memory_of, stored_of};

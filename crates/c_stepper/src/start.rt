@@ -3,9 +3,9 @@
 ghost use Rattle.std.specs.Prelude.{◌≡◌, [], ◌++◌, ◌≤◌, ◌*◌, ◌^◌, map, replicate, false, Some, option_copied, MatchOption, IfOk, OnOk};
 ghost use Rattle.c_memory.specs.Layouts as layouts;
 ghost use Rattle.c_memory.specs.Values as values;
-ghost use Rattle.c_prog.specs.Syntax as syntax;
-ghost use Rattle.c_prog.specs.Packing.{HasRoom};
-ghost use Rattle.c_mean.specs.Machine as machine;
+ghost use Rattle.c_program.specs.Syntax as syntax;
+ghost use Rattle.c_program.specs.Packing.{HasRoom};
+ghost use Rattle.c_machine.specs.Machine as machine;
 ghost use Rattle.c_stepper.specs.Views.{cell_of, control_of, layout_of, memory_of, state_of, state_option_of, function_of, function_option_of, program_of};
 ghost use Rattle.c_stepper.specs.Starting.{Packs, IsFirst};
 
@@ -17,7 +17,7 @@ use crate::tree::{Base, Function, Program, Stmts};
 use crate::value::Cell;
 use crate::work::{State, Work, queue};
 use c_base::integer::Machine;
-use c_prog::base::BaseSort;
+use c_program::base::BaseSort;
 use sqlite_items::Items;
 use std::alloc::{AllocError, Global};
 use std::rc::Rc;

@@ -3,8 +3,8 @@
 ghost use Rattle.std.specs.Prelude.{◌≡◌, [], ◌∷◌, map, Some, Ok, IfOk, OnOk};
 ghost use Rattle.c_memory.specs.Memories as memories;
 ghost use Rattle.c_memory.specs.Operations as operations;
-ghost use Rattle.c_prog.specs.Syntax.{Variable};
-ghost use Rattle.c_mean.specs.Machine as machine;
+ghost use Rattle.c_program.specs.Syntax.{Variable};
+ghost use Rattle.c_machine.specs.Machine as machine;
 ghost use Rattle.c_stepper.specs.Views.{bases_of, expr_of, stmt_of, stmts_of, result_of, value_of, held_of, value_result_of, truth_result_of, work_of, control_of, layout_of, memory_of, state_of, Answers, HasEffect, Leads, IsStep};
 ghost use Rattle.c_stepper.specs.declared.work.Effect.TheVariants.{StopsIn};
 
@@ -191,12 +191,13 @@ impl Stepper {
         let Some(at) = state.held.pop() else {
             return Ok(Effect::Stuck);
         };
-        match used(at) {
-            Ok(at) => {
+        match at {
+            Held::Usable(at) => {
                 let value = loaded(self.alloc, &self.layout, &state.memory, scalar, &at)?;
                 self.hold(state, value)
             }
-            Err(kind) => Ok(stop_in(&state.control, kind)),
+            Held::Unusable(kind) => Ok(stop_in(&state.control, kind)),
+            Held::Cells(_) | Held::Absent => Ok(stop_in(&state.control, Kind::Initialization)),
         }
     }
 
@@ -211,12 +212,23 @@ impl Stepper {
             return Ok(Effect::Stuck);
         };
         match used(at) {
-            Ok(at) => {
-                match used(value) {
-                    Ok(value) => self.write(scalar, &at, value, state),
-                    Err(kind) => Ok(stop_in(&state.control, kind)),
-                }
-            }
+            Ok(at) => self.store_held(scalar, &at, value, state),
+            Err(kind) => Ok(stop_in(&state.control, kind)),
+        }
+    }
+
+    fn store_held(
+        &self,
+        scalar: Scalar,
+        at: &Value,
+        held: Held,
+        state: &mut State,
+    ) -> Result<Effect, AllocError>
+        ensures { IfOk result (Leads self.now.layout (λ s. machine.with_target (layout_of self.now.layout)
+            scalar s (Ok (value_of at.now)) (machine.used (held_of held))) state.old state.new) }
+    {
+        match used(held) {
+            Ok(value) => self.write(scalar, at, value, state),
             Err(kind) => Ok(stop_in(&state.control, kind)),
         }
     }
@@ -464,8 +476,7 @@ impl Stepper {
 
     /// One step: the state becomes the next one, or the step stops, or there is none.
     pub fn step(&self, state: &mut State) -> Result<Outcome, AllocError>
-        ensures { IfOk result (IsStep (machine.Step (layout_of self.now.layout) (state_of (layout_of
-            self.now.layout) state.old)) (state_of (layout_of self.now.layout) state.new)) }
+        ensures { IfOk result (IsStep self.now.layout state.old state.new) }
     {
         let Some(work) = state.control.pop() else {
             return Ok(Outcome::Ends);

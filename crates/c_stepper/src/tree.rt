@@ -8,7 +8,7 @@ use c_base::name::Name;
 use c_base::number::Span;
 use c_base::operators::BinOp;
 use c_memory::scalar::Scalar;
-use c_prog::base::BaseSort;
+use c_program::base::BaseSort;
 use sqlite_items::Items;
 use std::rc::Rc;
 

@@ -7,7 +7,7 @@ ghost use Rattle.std.specs.FinSet as sets;
 ghost use Rattle.c_base.specs.Integers as integers;
 ghost use Rattle.c_memory.specs.Scalars as scalars;
 ghost use Rattle.c_memory.specs.Values as values;
-ghost use Rattle.c_mean.specs.Machine as machine;
+ghost use Rattle.c_machine.specs.Machine as machine;
 ghost use Rattle.c_stepper.specs.Views.{number_of, bases_of, value_of, cell_of, held_of, value_result_of};
 
 use crate::number::{Number, pattern_of, scalar_in, size_of_scalar};

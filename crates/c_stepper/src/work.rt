@@ -2,7 +2,7 @@
 
 ghost use Rattle.std.specs.Prelude.{◌≡◌, [], ◌∷◌, ◌++◌, IfOk, OnOk, List};
 ghost use Rattle.std.specs.Option.{option_to_list};
-ghost use Rattle.c_mean.specs.Machine as machine;
+ghost use Rattle.c_machine.specs.Machine as machine;
 ghost use Rattle.c_stepper.specs.Views.{stmt_of, stmts_of, work_of, control_of, left_of};
 
 use crate::memory::Memory;

@@ -9,7 +9,7 @@ ghost use Rattle.c_program.specs.Weights as plain;
 ghost use Rattle.c_weights.specs.Flags.{is_flagged, flag, flagged, flagged_weight};
 
 use c_base::number::BaseId;
-use c_prog::base::BaseSort;
+use c_program::base::BaseSort;
 use c_program::program::{Base, Block, Function, TypedProgram};
 use c_typed_expr::expr::TExpr;
 use c_typed_expr::nodes::Callees;

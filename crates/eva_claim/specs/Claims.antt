@@ -5,11 +5,13 @@ use Rattle.c_base.specs.declared.kind.Kind.{Kind}
 use Rattle.c_memory.specs.Layouts.{Layout}
 use Rattle.c_memory.specs.Memories.{Memory}
 use Rattle.c_memory.specs.Rows.{Describes}
-use Rattle.c_prog.specs.Syntax.{Program, Function, Base, base_at, is_shown, numbers_from, IsLayout}
-use Rattle.c_prog.specs.Valid.{IsValid}
-use Rattle.c_prog.specs.Packing.{HasRoom}
-use Rattle.c_mean.specs.Machine.{State, Stops, Step, IsInitial, IsRun, last_of, arrival, sites_of}
-use Rattle.eva_report.specs.Report.{ReportBase, ReportPart, ReportEntry, ReportString, ReportStmt, ReportAlarm, Report, report_text}
+use Rattle.c_program.specs.Syntax.{Program, Function, Base, base_at, is_shown, numbers_from, IsLayout}
+use Rattle.c_program.specs.Valid.{IsValid}
+use Rattle.c_program.specs.Checked.{AreFlowing}
+use Rattle.c_program.specs.Packing.{HasRoom}
+use Rattle.c_machine.specs.Laws.{IsSelfContained}
+use Rattle.c_machine.specs.Machine.{State, Stops, Step, IsInitial, IsRun, last_of, arrival, sites_of}
+use Rattle.eva_report.specs.Report.{ReportBase, ReportPart, ReportEntry, ReportString, ReportStmt, Report, report_text}
 use Rattle.eva_report.specs.Grammar.{IsReport}
 use Rattle.eva_report.specs.Meaning.{meaning_of, bases_of}
 use Rattle.eva_claim.specs.Numbering.{IsIn, numbers_of}
@@ -32,12 +34,12 @@ IsAlarmed r kind id sites = IsIn (record { kind = kind; at = id; sites = sites }
 -- a state's memory is covered where it is one at a statement, and a stop from it has its alarm
 pub record IsMet (p : Program) (r : Report) (l : Layout) (s : State) : Type 0 where
   pub rows : (id : ℕ) → arrival s.control ≡ Some id → IsCovered p r l id (sites_of s.control) s.memory
-  pub stops : (kind : Kind) (id : ℕ) (sites : List ℕ) → Step l s (Stops kind id sites) → IsAlarmed r kind id sites
+  pub stops : (kind : Kind) (id : ℕ) (sites : List ℕ) → Step p l s (Stops kind id sites) → IsAlarmed r kind id sites
 
 -- For every placement of objects and every run: each memory at a statement lies in a printed row of that statement and call string, and
 -- each stop has a printed alarm of its kind at its statement in its call string.
 abbrev pub IsSound : Program → Report → Type 0
-IsSound p r = (l : Layout) → IsLayout p l → (s : State) → IsInitial p l s → (ts : List State) → IsRun l s ts → IsMet p r l (last_of s ts)
+IsSound p r = (l : Layout) → IsLayout p l → (s : State) → IsInitial p l s → (ts : List State) → IsRun p l s ts → IsMet p r l (last_of s ts)
 
 -- the name that a base is printed with
 abbrev pub name_of : Option Base → List ℕ
@@ -84,10 +86,12 @@ pub record IsClaimed (p : Program) (r : Report) : Type 0 where
   pub hyps : r.hyps ≡ []
   pub rules : IsReport r
 
--- The text is that of such a report, which has an alarm exactly where the flag says so. The program is valid and has room in memory, so
--- that it has layouts, starts in each of them, and no run of it gets stuck.
+-- The text is that of such a report, which has an alarm exactly where the flag says so. The program is valid and has room in memory, its
+-- jumps lead somewhere, and its functions have bodies, so that it has layouts, starts in each of them, and no run of it gets stuck.
 pub record IsReportOf (p : Program) (alarmed : Bool) (text : List ℕ) : Type 0 where
   pub valid : IsValid p
+  pub flowing : AreFlowing p
+  pub whole : IsSelfContained p
   pub room : HasRoom p
   pub report : Report
   pub claimed : IsClaimed p report

@@ -2,8 +2,8 @@
 use Rattle.std.proofs.Common.{◌≡◌, true, false, ℤ, Some, Result, Ok, Err}
 use Rattle.std.specs.Prelude.{MatchResult}
 use Rattle.c_base.specs.declared.kind.Kind.{Kind}
-use Rattle.c_prog.specs.Syntax.{Expr}
-use Rattle.c_mean.specs.Evaluation.{Env, value, is_true}
+use Rattle.c_program.specs.Syntax.{Expr}
+use Rattle.first_analysis.specs.Evaluation.{Env, value, is_true}
 use Rattle.first_analysis.specs.declared.place.Place.{Place}
 use Rattle.first_analysis.specs.declared.place.Split.{Split}
 use Rattle.first_analysis.specs.Contents.{Row, HoldsRow, HoldsReached}

@@ -7,10 +7,10 @@ use Rattle.first_program.specs.Source.{Test}
 use Rattle.c_base.specs.declared.integer.IntKind.TheVariants.{Int}
 use Rattle.c_base.specs.declared.integer.Machine.TheVariants.{Lp64}
 use Rattle.c_base.specs.Integers.{fits_kind}
-use Rattle.c_prog.specs.Syntax.{Expr}
+use Rattle.c_program.specs.Syntax.{Expr}
 use Rattle.first_program.specs.Source.{Stmt, Assign, Return, If, While, Block, Nothing, Stmts, Done, Next, count}
 use Rattle.first_program.specs.Meaning.{sum_expr, test_expr}
-use Rattle.c_mean.specs.Evaluation.{Env, set, value, is_true}
+use Rattle.first_analysis.specs.Evaluation.{Env, set, value, is_true}
 use Rattle.first_analysis.specs.Contents.{HoldsReached}
 use Rattle.first_analysis.specs.Flow.{Spot, Below, IsAssigned, IsBranch, Flow, FlowAll}
 use Rattle.first_analysis.specs.Tables.{Reached, PlaceSpot, ArmFlow}

@@ -1,4 +1,5 @@
 pub mod Parts
+pub mod IntMachine
 pub mod Truths
 pub mod Sums
 pub mod Trees

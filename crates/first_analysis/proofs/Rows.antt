@@ -7,7 +7,7 @@ use Rattle.c_base.specs.declared.integer.IntKind.TheVariants.{Int}
 use Rattle.c_base.specs.declared.integer.Machine.TheVariants.{Lp64}
 use Rattle.c_base.specs.Integers.{fits_kind}
 use Rattle.c_base.proofs.Tests.{test_same, same_test}
-use Rattle.c_mean.specs.Evaluation.{Env, set as set_env}
+use Rattle.first_analysis.specs.Evaluation.{Env, set as set_env}
 use Rattle.first_analysis.specs.declared.content.Content.{Content}
 use Rattle.first_analysis.specs.Contents.{Holds, Includes, HoldsRow, FitsInt}
 

@@ -2,22 +2,21 @@
 use Rattle.std.proofs.Common.{◌≡◌, ℕ, zero, suc, ◌+◌, ◌≤◌, Bool, true, false, IsTrue, cond, List, [], ◌∷◌, map, take, drop, None, Some, Result, Ok, Err, ℤ, refl, ap, ◌∙◌, arith}
 use Rattle.std.specs.Prelude.{slice_get, MatchResult}
 use Rattle.c_base.specs.declared.kind.Kind.{Kind}
-use Rattle.c_base.specs.declared.integer.IntKind.TheVariants.{Int}
 use Rattle.first_program.specs.Source.{Sum}
 use Rattle.first_program.specs.Source.{Test}
 use Rattle.c_memory.specs.Values.{Cell, Uninit, Dead, Bit, plain, wither}
 use Rattle.c_memory.specs.Layouts.{Layout}
 use Rattle.c_memory.specs.Memories.{Memory, address_of, with_base, died, withered}
-use Rattle.c_prog.specs.Syntax.{Expr, Variable, Assign, Stmt, Expression, Return, Block, Nothing, Stmts, Done, Next}
+use Rattle.c_program.specs.Syntax.{Expr, Variable, Assign, Stmt, Expression, Return, Block, Nothing, Stmts, Done, Next, Program}
 use Rattle.first_program.specs.Source as source
-use Rattle.first_program.specs.Source.{count, count_all}
+use Rattle.first_program.specs.Source.{count}
 use Rattle.first_program.specs.SourceViews.{IsSumShaped, IsTestShaped, IsStmtShaped, AreStmtsShaped}
 use Rattle.first_program.specs.Meaning.{int_type, sum_expr, test_expr, stmt_of, stmts_of}
 use Rattle.c_memory.proofs.IntMemory.{int_cells}
-use Rattle.c_mean.specs.Evaluation.{Env, set, IsVariable, IsPlain, value, is_true}
-use Rattle.c_mean.specs.Machine.{Work, Do, Evaluate, Locate, Store, Discard, Choose, Loop, Turn, Deliver, Close, Held, Usable, State, Outcome, Goes, Exit, Step, arrival, queued, sites_of, exit_of, statement_in}
-use Rattle.c_mean.proofs.Runs.{Good, lead, lead_from}
-use Rattle.c_mean.proofs.Evaluation.{Shows, HasVariables, shows_set, evaluated, number_stored, delivered}
+use Rattle.first_analysis.specs.Evaluation.{Env, set, IsVariable, IsPlain, value, is_true}
+use Rattle.c_machine.specs.Machine.{Work, Do, Evaluate, Locate, Store, Discard, Choose, Loop, Turn, Deliver, Close, Held, Usable, State, Outcome, Goes, Exit, Step, arrival, queued, sites_of, exit_of, statement_in}
+use Rattle.c_machine.proofs.Runs.{Good, lead, lead_from}
+use Rattle.first_analysis.proofs.IntMachine.{Shows, HasVariables, AreStill, shows_set, evaluated, number_stored, delivered}
 use Rattle.first_analysis.specs.Flow.{Spot, Below, IsAlarmed, IsAssigned, IsBranch, Flow, FlowAll}
 use Rattle.first_analysis.proofs.Soundness.{sum_plain, test_plain, sum_fits}
 
@@ -39,7 +38,7 @@ died_none count env m s = record {
 
 -- ---- spots and their numbers
 
-module _ (Row : Type 0) (Holds : Row → Env → Type 0) (l : Layout) (Covered : ℕ → List ℕ → Memory → Type 0) (Alarmed : Kind → ℕ → List ℕ → Type 0) (variables : ℕ) (has : HasVariables l variables) where
+module _ (program : Program) (Row : Type 0) (Holds : Row → Env → Type 0) (l : Layout) (Covered : ℕ → List ℕ → Memory → Type 0) (Alarmed : Kind → ℕ → List ℕ → Type 0) (variables : ℕ) (has : HasVariables l variables) (still : AreStill program variables) where
   -- the spots stand at the statements from a number on: their rows cover, and their alarms are alarms
   pub record Stands (id : ℕ) (spots : List (Spot Row Holds)) : Type 0 where
     pub covers : (k : ℕ) (s : Spot Row Holds) → slice_get spots k ≡ Some s → (env : Env) (m : Memory) → Shows variables env m → Holds s.row env → Covered (id + k) [] m
@@ -84,7 +83,7 @@ module _ (Row : Type 0) (Holds : Row → Env → Type 0) (l : Layout) (Covered :
   at control held m = record { control = control; held = held; memory = m }
 
   abbrev Fine : ℕ → State → Type 0
-  Fine n s = Good l Covered Alarmed n s
+  Fine n s = Good program l Covered Alarmed n s
 
   -- work behind which the function that was entered first ends
   pub record IsEnding (rest : List Work) : Type 0 where
@@ -113,10 +112,10 @@ module _ (Row : Type 0) (Holds : Row → Env → Type 0) (l : Layout) (Covered :
 
   -- a statement at which the run arrives, and how it goes on
   arrive : (s : source.Stmt) (id : ℕ) (rest next : List Work) (m : Memory) → arrival (Do (stmt_of id s) ∷ rest) ≡ Some id → Covered id [] m → sites_of rest ≡ [] →
-      ((out : Outcome) → Step l (at (Do (stmt_of id s) ∷ rest) [] m) out → out ≡ Goes (at next [] m)) → (n : ℕ) → ((k : ℕ) → k ≤ n → Fine k (at next [] m)) → Fine n (at (Do (stmt_of id s) ∷ rest) [] m)
+      ((out : Outcome) → Step program l (at (Do (stmt_of id s) ∷ rest) [] m) out → out ≡ Goes (at next [] m)) → (n : ℕ) → ((k : ℕ) → k ≤ n → Fine k (at next [] m)) → Fine n (at (Do (stmt_of id s) ∷ rest) [] m)
   arrive s id rest next m here covered none step zero later = tt
   arrive s id rest next m here covered none step (suc n) later =
-      lead_from l Covered Alarmed (at (Do (stmt_of id s) ∷ rest) [] m) (at next [] m) id here (rw none covered) step n (later n (omega arith))
+      lead_from program l Covered Alarmed (at (Do (stmt_of id s) ∷ rest) [] m) (at next [] m) id here (rw none covered) step n (later n (omega arith))
 
   -- an expression of the statement is evaluated, and its number leads on
   module _ (id : ℕ) (s : Spot Row Holds) (spots : List (Spot Row Holds)) (stands : Stands id (s ∷ spots)) where
@@ -124,7 +123,7 @@ module _ (Row : Type 0) (Holds : Row → Env → Type 0) (l : Layout) (Covered :
         IsPlain variables e → IsAlarmed Row Holds s e → Shows variables env m → Holds s.row env →
         ((v : ℤ) → value env e ≡ Ok v → Fine n (at rest (Usable (plain v) ∷ held) m)) → Fine n (at (Evaluate e ∷ rest) held m)
     expression_held e rest held env m n named none is alarmed show inside later =
-        evaluated l Covered Alarmed variables has env e rest held m n is show (by_result (value env e) refl (alarmed.each env inside))
+        evaluated program l Covered Alarmed variables has still env e rest held m n is show (by_result (value env e) refl (alarmed.each env inside))
       where
         by_result : (x : Result ℤ Kind) → value env e ≡ x → MatchResult x (λ v. Unit {0}) (λ kind. IsTrue (s.alarms kind)) →
             MatchResult x (λ v. Fine n (at rest (Usable (plain v) ∷ held) m)) (λ kind. Alarmed kind (statement_in rest) (sites_of rest))
@@ -135,7 +134,7 @@ module _ (Row : Type 0) (Holds : Row → Env → Type 0) (l : Layout) (Covered :
     branch_held : (e : Expr) (rest when_true when_false : List Work) (turn other : Row) (env : Env) (m : Memory) (n : ℕ) → statement_in rest ≡ id → sites_of rest ≡ [] →
         IsPlain variables e → IsAlarmed Row Holds s e → IsBranch Row Holds s e true turn → IsBranch Row Holds s e false other → Shows variables env m → Holds s.row env →
         arrival rest ≡ None →
-        ((v : ℤ) (out : Outcome) → Step l (at rest (Usable (plain v) ∷ []) m) out → out ≡ Goes (at (cond (is_true v) when_true when_false) [] m)) →
+        ((v : ℤ) (out : Outcome) → Step program l (at rest (Usable (plain v) ∷ []) m) out → out ≡ Goes (at (cond (is_true v) when_true when_false) [] m)) →
         (Holds turn env → Fine n (at when_true [] m)) → (Holds other env → Fine n (at when_false [] m)) → Fine n (at (Evaluate e ∷ rest) [] m)
     branch_held e rest when_true when_false turn other env m n named none is alarmed turned otherwise show inside silent step left right =
         expression_held e rest [] env m n named none is alarmed show inside
@@ -143,9 +142,9 @@ module _ (Row : Type 0) (Holds : Row → Env → Type 0) (l : Layout) (Covered :
       where
         by_truth : (v : ℤ) (b : Bool) → is_true v ≡ b → (is_true v ≡ true → Holds turn env) → (is_true v ≡ false → Holds other env) → Fine n (at rest (Usable (plain v) ∷ []) m)
         by_truth v true e y z =
-            lead l Covered Alarmed (at rest (Usable (plain v) ∷ []) m) (at when_true [] m) silent (λ out t. let u = step v out t in rw e at u) n (left (y e))
+            lead program l Covered Alarmed (at rest (Usable (plain v) ∷ []) m) (at when_true [] m) silent (λ out t. let u = step v out t in rw e at u) n (left (y e))
         by_truth v false e y z =
-            lead l Covered Alarmed (at rest (Usable (plain v) ∷ []) m) (at when_false [] m) silent (λ out t. let u = step v out t in rw e at u) n (right (z e))
+            lead program l Covered Alarmed (at rest (Usable (plain v) ∷ []) m) (at when_false [] m) silent (λ out t. let u = step v out t in rw e at u) n (right (z e))
 
     assignment_good : (target : ℕ) (sum : Sum) (rest : List Work) (before after : Row) (env : Env) (m : Memory) (n : ℕ) → IsVariable variables target → IsSumShaped variables sum →
         Below Row Holds before s.row → IsAlarmed Row Holds s (sum_expr sum) → IsAssigned Row Holds s target (sum_expr sum) after → IsEnding rest → GoesOn n rest after →
@@ -153,14 +152,14 @@ module _ (Row : Type 0) (Holds : Row → Env → Type 0) (l : Layout) (Covered :
     assignment_good target sum rest before after env m n is shaped below alarmed assigned ending goes show inside =
         arrive (source.Assign (record { 0 = target }) sum) id rest (Evaluate assign ∷ Discard id ∷ rest) m refl (here_covers id s spots stands env m show held) ending.sites (λ out step. step) n
         (λ k less_n.
-        lead l Covered Alarmed (at (Evaluate assign ∷ Discard id ∷ rest) [] m) (at (Locate (Variable target) ∷ Evaluate (sum_expr sum) ∷ Store int_type ∷ Discard id ∷ rest) [] m) refl (λ out step. step) k
-        (lead l Covered Alarmed (at (Locate (Variable target) ∷ Evaluate (sum_expr sum) ∷ Store int_type ∷ Discard id ∷ rest) [] m)
+        lead program l Covered Alarmed (at (Evaluate assign ∷ Discard id ∷ rest) [] m) (at (Locate (Variable target) ∷ Evaluate (sum_expr sum) ∷ Store int_type ∷ Discard id ∷ rest) [] m) refl (λ out step. step) k
+        (lead program l Covered Alarmed (at (Locate (Variable target) ∷ Evaluate (sum_expr sum) ∷ Store int_type ∷ Discard id ∷ rest) [] m)
         (at (Evaluate (sum_expr sum) ∷ Store int_type ∷ Discard id ∷ rest) (Usable (address_of l target) ∷ []) m) refl (λ out step. step) k
         (expression_held (sum_expr sum) (Store int_type ∷ Discard id ∷ rest) (Usable (address_of l target) ∷ []) env m k refl ending.sites (sum_plain variables sum shaped) alarmed show held
         (λ v is_v.
         let fits = sum_fits variables env show.fits sum shaped v is_v in
-        number_stored l Covered Alarmed variables has env target v (Discard id ∷ rest) [] m k is show
-        (lead l Covered Alarmed (at (Discard id ∷ rest) (Usable (plain v) ∷ []) (stored v)) (at rest [] (stored v)) refl (λ out step. step) k
+        number_stored program l Covered Alarmed variables has still env target v (Discard id ∷ rest) [] m k is show
+        (lead program l Covered Alarmed (at (Discard id ∷ rest) (Usable (plain v) ∷ []) (stored v)) (at rest [] (stored v)) refl (λ out step. step) k
         (goes.each k less_n (set env target v) (stored v) (shows_set variables env m target v is fits show) ((rw is_v at (assigned.each env held)) fits)))))))
       where
         held : Holds s.row env
@@ -177,7 +176,7 @@ module _ (Row : Type 0) (Holds : Row → Env → Type 0) (l : Layout) (Covered :
     return_good sum rest before env m n shaped below alarmed ending show inside =
         arrive (source.Return sum) id rest (Evaluate (sum_expr sum) ∷ Deliver id ∷ rest) m refl (here_covers id s spots stands env m show held) ending.sites (λ out step. step) n
         (λ k less_n. expression_held (sum_expr sum) (Deliver id ∷ rest) [] env m k refl ending.sites (sum_plain variables sum shaped) alarmed show held
-        (λ v is_v. delivered l Covered Alarmed variables has id rest [] m (plain v) ending.exit k ending.out ending.last))
+        (λ v is_v. delivered program l Covered Alarmed variables has still id rest [] m (plain v) ending.exit k ending.out ending.last))
       where
         held : Holds s.row env
         held = below.each env inside
@@ -210,7 +209,7 @@ module _ (Row : Type 0) (Holds : Row → Env → Type 0) (l : Layout) (Covered :
       loop_good n zero h goes env m show inside = tt
       loop_good zero (suc k) h goes env m show inside = absurd (omega arith)
       loop_good (suc n) (suc k) h goes env m show inside =
-          lead_from l Covered Alarmed (at (head ∷ rest) [] m) (at (Evaluate (test_expr test) ∷ Turn id (test_expr test) (stmt_of (suc id) body) ∷ rest) [] m) id refl
+          lead_from program l Covered Alarmed (at (head ∷ rest) [] m) (at (Evaluate (test_expr test) ∷ Turn id (test_expr test) (stmt_of (suc id) body) ∷ rest) [] m) id refl
           (rw ending.sites (here_covers id s spots stands env m show inside)) (λ out step. step) k
           (branch_held (test_expr test) (Turn id (test_expr test) (stmt_of (suc id) body) ∷ rest) (Do (stmt_of (suc id) body) ∷ head ∷ rest) rest turn after env m k refl ending.sites
           (test_plain variables test shaped) alarmed left right show inside refl (λ v out step. step)
@@ -241,20 +240,20 @@ module _ (Row : Type 0) (Holds : Row → Env → Type 0) (l : Layout) (Covered :
         show inside
     statement_good (source.While test body) id [] before after rest shaped f stands ending n goes env m show inside = absurd f
     statement_good (source.While test body) id (s ∷ spots) before after rest shaped f stands ending n goes env m show inside =
-        lead l Covered Alarmed (at (Do (stmt_of id (source.While test body)) ∷ rest) [] m) (at (Loop id (test_expr test) (stmt_of (suc id) body) ∷ rest) [] m) refl (λ out step. step) n
+        lead program l Covered Alarmed (at (Do (stmt_of id (source.While test body)) ∷ rest) [] m) (at (Loop id (test_expr test) (stmt_of (suc id) body) ∷ rest) [] m) refl (λ out step. step) n
         (loop_good id s spots stands test body rest f.2.0 f.2.1 after shaped.0 f.2.5 f.1 f.2.2 f.2.3 ending
         (λ k tail ends on e c sh h. statement_good body (suc id) spots f.2.0 f.2.1 tail shaped.1 f.2.4 (stands_rest id s spots stands) ends k on e c sh h)
         n n (omega arith) goes env m show (f.0.each env inside))
     statement_good (source.Block stmts) id spots before after rest shaped f stands ending n goes env m show inside =
-        lead l Covered Alarmed (at (Do (Block [] (stmts_of id stmts)) ∷ rest) [] m) (at (queued (stmts_of id stmts) (Close [] (stmts_of id stmts) ∷ rest)) [] m) refl (λ out step. step) n
+        lead program l Covered Alarmed (at (Do (Block [] (stmts_of id stmts)) ∷ rest) [] m) (at (queued (stmts_of id stmts) (Close [] (stmts_of id stmts) ∷ rest)) [] m) refl (λ out step. step) n
         (statements_good stmts id spots before after (Close [] (stmts_of id stmts) ∷ rest) shaped f stands
         (record { sites = ending.sites; exit = ending.exit; out = ending.out; last = ending.last }) n
         (record {
-          each = λ k h e c sh b. lead l Covered Alarmed (at (Close [] (stmts_of id stmts) ∷ rest) [] c) (at rest [] (died [] c)) refl (λ out step. step) k
+          each = λ k h e c sh b. lead program l Covered Alarmed (at (Close [] (stmts_of id stmts) ∷ rest) [] c) (at rest [] (died [] c)) refl (λ out step. step) k
               (goes.each k h e (died [] c) (died_none variables e c sh) b);
         }) env m show inside)
     statement_good source.Nothing id [] before after rest shaped f stands ending n goes env m show inside =
-        lead l Covered Alarmed (at (Do Nothing ∷ rest) [] m) (at rest [] m) refl (λ out step. step) n (goes.each n (omega arith) env m show (f.each env inside))
+        lead program l Covered Alarmed (at (Do Nothing ∷ rest) [] m) (at rest [] m) refl (λ out step. step) n (goes.each n (omega arith) env m show (f.each env inside))
     statement_good source.Nothing id (s ∷ spots) before after rest shaped f stands ending n goes env m show inside = absurd f
 
     pub statements_good : (stmts : source.Stmts) (id : ℕ) (spots : List (Spot Row Holds)) (before after : Row) (rest : List Work) → AreStmtsShaped variables stmts →

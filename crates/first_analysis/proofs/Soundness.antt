@@ -9,11 +9,11 @@ use Rattle.first_program.specs.declared.tree.Sign.TheVariants.{Plus, Minus}
 use Rattle.first_program.specs.Source.{Sum, Number as SumNumber, Variable as SumVariable, Parenthesised, Run, Addends, End, Then, Test, Compare, Enclosed}
 use Rattle.c_base.specs.Integers.{fits_kind}
 use Rattle.c_base.specs.Operators.{arithmetic}
-use Rattle.c_prog.specs.Syntax.{Expr, Binary}
+use Rattle.c_program.specs.Syntax.{Expr, Binary}
 use Rattle.first_program.specs.SourceViews.{IsSumShaped, AreAddendsShaped, IsTestShaped}
 use Rattle.first_program.specs.Meaning.{run_expr, sum_expr, test_expr, sign_op}
 use Rattle.c_base.proofs.Bits.{pos_fits}
-use Rattle.c_mean.specs.Evaluation.{Env, IsPlain, value, combined, content_value}
+use Rattle.first_analysis.specs.Evaluation.{Env, IsPlain, value, combined, content_value}
 use Rattle.first_analysis.specs.Contents.{FitsInt}
 
 -- ---- sums and tests have no effect, and their numbers fit

@@ -3,14 +3,14 @@ use Rattle.std.proofs.Common.{◌≡◌, ℕ, suc, ◌+◌, ◌<◌, List, ◌�
 use Rattle.std.proofs.Math.Seq.{drop-cons}
 use Rattle.std.proofs.Math.Numerals.{add-one}
 use Rattle.c_base.specs.declared.integer.IntKind.TheVariants.{Int}
-use Rattle.c_prog.specs.Syntax.{Expr, Binary}
+use Rattle.c_program.specs.Syntax.{Expr, Binary}
 use Rattle.first_program.specs.declared.tree.Addend.{Addend as CodeAddend}
 use Rattle.first_program.specs.declared.tree.Sign.{Sign}
 use Rattle.first_program.specs.declared.tree.Sum.TheFolds as F
 use Rattle.first_program.specs.Source.{Sum}
 use Rattle.first_program.specs.SourceViews.{addends, addend_step, addend_tree, sum_step, sum_tree}
 use Rattle.first_program.specs.Meaning.{run_expr, sign_op, sum_expr}
-use Rattle.c_mean.specs.Evaluation.{Env, value}
+use Rattle.first_analysis.specs.Evaluation.{Env, value}
 use Rattle.first_analysis.specs.declared.evaluation.Evaluated.{Evaluated}
 use Rattle.first_analysis.specs.Values.{Gives}
 

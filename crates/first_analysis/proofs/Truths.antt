@@ -3,7 +3,7 @@ use Rattle.std.proofs.Common.{◌≡◌, ◌≢◌, ℤ, Bool, true, false, IsTr
 use Rattle.std.specs.Prelude.{not, int_le, int_lt}
 use Rattle.std.proofs.lemmas.Int.{ints}
 use Rattle.c_base.specs.Operators.{truth_number}
-use Rattle.c_mean.specs.Evaluation.{is_true}
+use Rattle.first_analysis.specs.Evaluation.{is_true}
 use Rattle.first_analysis.specs.declared.evaluation.Truths.{Truths}
 use Rattle.first_analysis.specs.Values.{is_possible}
 

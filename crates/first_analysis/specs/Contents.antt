@@ -5,7 +5,7 @@ use Rattle.c_base.specs.declared.integer.Machine.TheVariants.{Lp64}
 use Rattle.c_base.specs.Integers.{fits_kind}
 use Rattle.first_analysis.specs.declared.range.Range.{Range}
 use Rattle.first_analysis.specs.declared.content.Content.{Content}
-use Rattle.c_mean.specs.Evaluation.{Env}
+use Rattle.first_analysis.specs.Evaluation.{Env}
 
 -- the number lies between the bounds
 pub record IsWithin (r : Range) (n : ℤ) : Type 0 where

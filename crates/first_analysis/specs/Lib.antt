@@ -1,4 +1,5 @@
 pub mod Parts
+pub mod Evaluation
 pub mod Contents
 pub mod Values
 pub mod Flow

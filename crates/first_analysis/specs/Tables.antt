@@ -1,7 +1,7 @@
 -- The spots of the code's places.
 use Rattle.std.specs.Prelude.{ℕ, ◌≡◌, true, false, cond, IsTrue, ℤ, Option, Result, Ok, Err, None, Some, List, [], ◌∷◌, ◌++◌, length, map}
 use Rattle.c_base.specs.declared.kind.Kind.{Kind}
-use Rattle.c_prog.specs.Syntax.{Expr}
+use Rattle.c_program.specs.Syntax.{Expr}
 use Rattle.first_program.specs.Source.{Test}
 use Rattle.first_program.specs.declared.tree.Arm.{Arm as CodeArm}
 use Rattle.first_program.specs.declared.tree.Stmt.{Stmt as CodeStmt}
@@ -9,7 +9,7 @@ use Rattle.first_program.specs.declared.tree.Stmt.TheFolds.{fold-Arm}
 use Rattle.first_program.specs.Source.{Stmt, Nothing, Stmts, Program, count_all}
 use Rattle.first_program.specs.SourceViews.{tree_of, ladder, stmt_step, arm_step}
 use Rattle.first_program.specs.Meaning.{test_expr}
-use Rattle.c_mean.specs.Evaluation.{Env, is_true}
+use Rattle.first_analysis.specs.Evaluation.{Env, is_true}
 use Rattle.first_analysis.specs.declared.place.Place.{Place}
 use Rattle.first_analysis.specs.declared.place.Split.{Split}
 use Rattle.first_analysis.specs.Contents.{Row, HoldsReached}

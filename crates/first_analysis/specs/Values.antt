@@ -2,7 +2,7 @@
 use Rattle.std.specs.Prelude.{Bool, true, false, IsTrue, ℤ, Result, Ok, Err}
 use Rattle.c_base.specs.declared.kind.Kind.{Kind}
 use Rattle.c_base.specs.declared.kind.Kind.TheVariants.{SignedOverflow, Initialization}
-use Rattle.c_mean.specs.Evaluation.{is_true}
+use Rattle.first_analysis.specs.Evaluation.{is_true}
 use Rattle.first_analysis.specs.declared.evaluation.Kinds.{Kinds}
 use Rattle.first_analysis.specs.declared.evaluation.Evaluated.{Evaluated}
 use Rattle.first_analysis.specs.declared.evaluation.Truths.{Truths}

@@ -6,8 +6,8 @@ ghost use Rattle.c_base.specs.declared.integer.Machine.TheVariants.{Lp64};
 ghost use Rattle.c_base.specs.Operators.{arithmetic, applied};
 ghost use Rattle.first_program.specs.Meaning.{sign_op, run_expr, sum_expr, relation_op, test_expr};
 ghost use Rattle.first_program.specs.SourceViews.{addends, addend_tree, sum_tree, test_tree};
-ghost use Rattle.c_prog.specs.Syntax.{Expr};
-ghost use Rattle.c_mean.specs.Evaluation.{Env, value, combined, content_value, is_true};
+ghost use Rattle.c_program.specs.Syntax.{Expr};
+ghost use Rattle.first_analysis.specs.Evaluation.{Env, value, combined, content_value, is_true};
 ghost use Rattle.first_analysis.specs.Contents.{IsWithin, Holds, HoldsNumber, HoldsRow};
 ghost use Rattle.first_analysis.specs.Values.{Gives, GivesTruth, has_kind, is_possible};
 

@@ -3,7 +3,7 @@ ghost use Rattle.std.specs.Prelude.{◌≡◌, ℕ, ℤ, true, Bool, IsTrue, IfO
 ghost use Rattle.first_program.specs.Meaning.{sum_expr, test_expr};
 ghost use Rattle.first_program.specs.SourceViews.{sum_tree, test_tree};
 ghost use Rattle.first_analysis.specs.Tables.{Reached, Rises, AlarmsAt, AssignsAt, BranchesAt, SplitsTo};
-ghost use Rattle.c_mean.specs.Evaluation.{value};
+ghost use Rattle.first_analysis.specs.Evaluation.{value};
 ghost use Rattle.first_analysis.specs.Contents.{HoldsReached, HoldsRow};
 
 use crate::content::Content;

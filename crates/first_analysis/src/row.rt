@@ -3,7 +3,7 @@ ghost use Rattle.std.specs.Prelude.{◌≡◌, ℤ, true, List, IsTrue, IfOk, le
 ghost use Rattle.c_base.specs.declared.integer.IntKind.TheVariants.{Int};
 ghost use Rattle.c_base.specs.declared.integer.Machine.TheVariants.{Lp64};
 ghost use Rattle.c_base.specs.Integers.{fits_kind};
-ghost use Rattle.c_mean.specs.Evaluation.{Env, set};
+ghost use Rattle.first_analysis.specs.Evaluation.{Env, set};
 ghost use Rattle.first_analysis.specs.Contents.{IsWithin, HoldsNumber, HoldsRow, HoldsReached};
 ghost use Rattle.first_analysis.specs.declared.content.Content.{Content};
 

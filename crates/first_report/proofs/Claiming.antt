@@ -1,5 +1,5 @@
 -- The printed text is that of a report which claims what it should.
-use Rattle.std.proofs.Common.{◌≡◌, ◌≢◌, ◌↔◌, ℕ, suc, ◌+◌, ◌++◌, Bool, IsTrue, List, [], ◌∷◌, length, refl, ap, arith}
+use Rattle.std.proofs.Common.{◌≡◌, ◌≢◌, ◌↔◌, ℕ, Bool, IsTrue, List, [], length, refl, ap, arith}
 use Rattle.std.proofs.lemmas.List.{length-append}
 use Rattle.first_program.specs.Source.{Program}
 use Rattle.first_program.specs.SourceViews.{IsShaped}
@@ -11,9 +11,8 @@ use Rattle.eva_claim.specs.Claims.{IsReportOf}
 use Rattle.first_report.specs.Rows.{report_of}
 use Rattle.first_report.proofs.Soundness.{sound}
 use Rattle.first_report.proofs.Numbered.{complete}
-use Rattle.first_report.proofs.Validity.{is_valid, has_room}
+use Rattle.first_report.proofs.Validity.{is_valid, is_flowing, is_self_contained, has_room}
 use Rattle.first_report.proofs.Ruling.{ruled, objects_named}
-use Rattle.eva_claim.specs.Claims.{names_of}
 
 -- there is a place for each statement and for the closing brace
 pub places_counted : (p : Program) (places : List Place) → IsShaped p → IsAnalysis p places → length places ≡ length p.spans
@@ -26,6 +25,8 @@ claimed p places text alarmed shaped an is flag =
     let many = places_counted p places shaped an in
     record {
       valid = is_valid p;
+      flowing = is_flowing p;
+      whole = is_self_contained p;
       room = has_room p shaped;
       report = report_of p places;
       claimed = record {

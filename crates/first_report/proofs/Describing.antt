@@ -1,6 +1,6 @@
 -- The row of a statement describes the memories of the runs.
-use Rattle.std.proofs.Common.{◌≡◌, ◌≢◌, ℕ, zero, suc, ◌+◌, ◌*◌, ◌/◌, ◌^◌, ◌<◌, ◌≤◌, ◌==◌, Bool, true, false, IsTrue, List, [], ◌∷◌, length, get_or, map, take, drop, replicate, Option, None, Some, ℤ, refl, sym, ap, ◌∙◌, inl, arith, take_all, drop_of_length-le}
-use Rattle.std.specs.Prelude.{◌≤ℤ◌, ◌⊎◌, IsSome, nat_le}
+use Rattle.std.proofs.Common.{◌≡◌, ℕ, zero, suc, ◌+◌, ◌*◌, ◌/◌, ◌^◌, ◌<◌, ◌≤◌, ◌==◌, Bool, true, false, IsTrue, List, [], ◌∷◌, length, get_or, map, take, drop, replicate, Option, None, Some, ℤ, refl, sym, ap, inl, arith, take_all, drop_of_length-le}
+use Rattle.std.specs.Prelude.{◌≤ℤ◌, IsSome, nat_le}
 use Rattle.std.specs.List.{AllByRecursion}
 use Rattle.std.proofs.lemmas.Bool.Decides.{nat_tests}
 use Rattle.std.proofs.lemmas.Int.{ints}
@@ -8,14 +8,13 @@ use Rattle.c_base.proofs.Tests.{other_test}
 use Rattle.c_base.specs.declared.integer.Machine.TheVariants.{Lp64}
 use Rattle.c_base.specs.Integers.{bits_from, residue}
 use Rattle.c_base.proofs.Bits.{length-bits_from}
-use Rattle.c_memory.specs.Values.{Cell, Uninit, nowhere, plain, cells_from, cells_of}
+use Rattle.c_memory.specs.Values.{Cell, Uninit, nowhere, cells_from}
 use Rattle.c_memory.specs.Layouts.{Layout}
 use Rattle.c_memory.specs.Memories.{Memory}
-use Rattle.c_memory.specs.Rows.{Numbers, HoldsNumber, Plain, RowCell, Entry, AreBits, IsFlagged, AllowsPart, AllowsSome, EachElement, AllowsStretch, DescribesEntry, AreRanges, entries_of, Describes}
+use Rattle.c_memory.specs.Rows.{Numbers, HoldsNumber, Plain, RowCell, Entry, AreBits, IsFlagged, AllowsPart, AllowsSome, EachElement, AllowsStretch, DescribesEntry, entries_of, Describes}
 use Rattle.c_memory.proofs.IntMemory.{int_cells, length-int_cells}
-use Rattle.c_mean.specs.Evaluation.{Env, IsVariable}
-use Rattle.c_mean.proofs.Evaluation.{HasVariables, Shows}
-use Rattle.eva_report.specs.Report.{ReportEntry}
+use Rattle.first_analysis.specs.Evaluation.{Env, IsVariable}
+use Rattle.first_analysis.proofs.IntMachine.{HasVariables, Shows}
 use Rattle.eva_report.specs.Meaning.{meaning_of}
 use Rattle.eva_report.proofs.Numbers.{range_holds}
 use Rattle.first_report.specs.Rows.{Shown, numbers_in, entry_for, row_from}

@@ -1,13 +1,13 @@
 -- Entries of variables, part by part.
-use Rattle.std.proofs.Common.{◌≡◌, ℕ, zero, suc, ◌+◌, ◌<◌, ◌≤◌, Bool, true, false, List, [], ◌∷◌, ◌++◌, length, get_or, map, drop, Option, None, Some, ℤ, refl, sym, ap, ◌∙◌, arith, append_assoc, append-nil, drop-cons, drop_of_length-le, add-one}
+use Rattle.std.proofs.Common.{◌≡◌, ℕ, zero, suc, ◌+◌, ◌<◌, ◌≤◌, Bool, false, List, [], ◌∷◌, ◌++◌, length, get_or, map, drop, Option, None, Some, ℤ, refl, sym, ap, ◌∙◌, arith, append_assoc, append-nil, drop-cons, drop_of_length-le, add-one}
 use Rattle.std.specs.Prelude.{slice_get}
-use Rattle.eva_report.specs.Report.{ReportPart, ReportEntry}
+use Rattle.eva_report.specs.Report.{ReportEntry}
 use Rattle.first_analysis.specs.declared.content.Content.{Content}
-use Rattle.c_prog.specs.Syntax.{base_at}
+use Rattle.c_program.specs.Syntax.{base_at}
 use Rattle.first_program.specs.Source.{Program}
 use Rattle.first_program.specs.Meaning.{meaning_of, variable_base}
 use Rattle.eva_claim.specs.Claims.{name_of, names_of}
-use Rattle.first_report.specs.Rows.{Shown, parts_of, flag_parts, entry_for, row_from, shown_all, shown_or, anything}
+use Rattle.first_report.specs.Rows.{Shown, parts_of, flag_parts, entry_for, row_from, shown_all, shown_or}
 
 -- the numbers of an entry, and then the flag
 pub entry_parts : (bounds : Option (ℤ × ℤ)) (uninit : Bool) → parts_of bounds uninit ≡ parts_of bounds false ++ flag_parts uninit

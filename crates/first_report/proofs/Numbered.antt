@@ -4,7 +4,7 @@ use Rattle.std.specs.List.{AllByRecursion}
 use Rattle.std.proofs.lemmas.Bool.Decides.{nat_tests}
 use Rattle.std.specs.Prelude.{Bool, true, false, ◌==◌}
 use Rattle.c_base.specs.declared.number.Span.{Span}
-use Rattle.c_prog.specs.Syntax.{numbers_from}
+use Rattle.c_program.specs.Syntax.{numbers_from}
 use Rattle.first_program.specs.Source.{Program, Stmt, Assign, Return, If, While, Block, Nothing, Stmts, Done, Next, count, count_all}
 use Rattle.first_program.specs.Meaning.{stmt_of, stmts_of, main_of, meaning_of}
 use Rattle.first_analysis.specs.declared.place.Place.{Place}

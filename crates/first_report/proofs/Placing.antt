@@ -6,11 +6,12 @@ use Rattle.c_base.proofs.Tests.{same_test, other_test}
 use Rattle.first_program.specs.Source.{Program}
 use Rattle.c_memory.specs.Layouts.{Layout}
 use Rattle.c_memory.specs.Memories.{Memory, born}
-use Rattle.c_prog.specs.Syntax.{base_at, numbers_from, IsLayout}
+use Rattle.c_program.specs.Syntax.{base_at, numbers_from, IsLayout}
 use Rattle.first_program.specs.Meaning.{meaning_of, variable_base}
-use Rattle.c_mean.specs.Evaluation.{IsVariable}
-use Rattle.c_mean.specs.Machine.{initial_memory, first_cells}
-use Rattle.c_mean.proofs.Evaluation.{HasVariables, Shows}
+use Rattle.first_analysis.specs.Evaluation.{IsVariable}
+use Rattle.c_machine.specs.Machine.{initial_memory, image_at, imaged, first_cells}
+use Rattle.c_machine.specs.Unfolding.{volatile_base}
+use Rattle.first_analysis.proofs.IntMachine.{HasVariables, AreStill, Shows}
 
 or_true : (a b : Bool) → b ≡ true → (a || b) ≡ true
 or_true true b h = refl
@@ -67,6 +68,10 @@ has_variables p l is = record {
         let all : l.bases ≡ numbers_from 0 (suc (length p.variables)) = is.all ∙ ap (λ n. numbers_from 0 (suc n)) (length-bases p.variables) in
         rw all (in_numbers (λ b. b == base) base (same_test base) (λ b e. other_test b base e) 0 (suc (length p.variables)) (omega arith) (omega arith))
 
+-- no object of the language is volatile
+pub still : (p : Program) → AreStill (meaning_of p) (length p.variables)
+still p base v = ap volatile_base (base_known p base v)
+
 -- ---- the first memory
 
 -- no object of the language lives before the run
@@ -74,7 +79,7 @@ pub nothing_before : (p : Program) (l : Layout) (base : ℕ) → initial_memory 
 nothing_before p l zero = refl
 nothing_before p l (suc i) = none p.variables i
   where
-    none : (vs : List (List ℕ)) (i : ℕ) → first_cells (base_at (map variable_base vs) i) ≡ None
+    none : (vs : List (List ℕ)) (i : ℕ) → imaged l (image_at (base_at (map variable_base vs) i)) (first_cells (base_at (map variable_base vs) i)) ≡ None
     none [] i = refl
     none (v ∷ vs) zero = refl
     none (v ∷ vs) (suc i) = none vs i

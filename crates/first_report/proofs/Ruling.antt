@@ -1,24 +1,22 @@
 -- The report keeps the rules of the format, and names the program's objects.
-use Rattle.std.proofs.Common.{◌≡◌, ◌≢◌, ℕ, zero, suc, ◌+◌, ◌-◌, ◌<◌, ◌≤◌, Bool, true, false, IsTrue, List, [], ◌∷◌, ◌++◌, length, get_or, map, Option, None, Some, ℤ, refl, sym, ap, ◌∙◌, inl, inr, arith}
-use Rattle.std.specs.Prelude.{◌≤ℤ◌}
+use Rattle.std.proofs.Common.{◌≡◌, ℕ, zero, suc, ◌+◌, ◌-◌, ◌≤◌, Bool, true, false, IsTrue, List, [], ◌∷◌, ◌++◌, length, Option, None, Some, ℤ, refl, ap, inl, inr, arith}
 use Rattle.std.specs.List.{AllByRecursion}
 use Rattle.std.proofs.lemmas.Int.{ints}
 use Rattle.c_base.specs.declared.kind.Kind.TheVariants.{SignedOverflow, Initialization}
 use Rattle.c_base.specs.declared.number.Span.{Span}
-use Rattle.c_prog.specs.Syntax.{is_shown}
-use Rattle.c_mean.specs.Evaluation.{IsVariable}
+use Rattle.c_program.specs.Syntax.{is_shown}
+use Rattle.first_analysis.specs.Evaluation.{IsVariable}
 use Rattle.first_program.specs.Source.{Program}
 use Rattle.first_program.specs.Meaning.{meaning_of}
 use Rattle.first_analysis.specs.declared.range.Range.{Range}
 use Rattle.first_analysis.specs.declared.content.Content.{Content}
-use Rattle.first_analysis.specs.declared.evaluation.Kinds.{Kinds}
 use Rattle.first_analysis.specs.declared.place.Place.{Place}
 use Rattle.first_analysis.specs.Parts.{has_part}
-use Rattle.eva_report.specs.Report.{ReportPart, Number, Uninit, ReportEntry, ReportString, ReportStmt, ReportAlarm}
-use Rattle.eva_report.specs.Grammar.{IsOrdered, IsPart, IsFollowed, AreFlags, IsEntry, IsNext, IsRow, IsString, IsStmt, StringBefore, StmtBefore, AlarmBefore, IsReport}
+use Rattle.eva_report.specs.Report.{ReportAlarm}
+use Rattle.eva_report.specs.Grammar.{IsOrdered, IsEntry, IsNext, IsString, IsStmt, StringBefore, StmtBefore, AlarmBefore, IsReport}
 use Rattle.eva_report.proofs.Numbers.{range_shown}
 use Rattle.eva_claim.specs.Claims.{names_of, IsNamedPart, IsOfObject, AreOfObjects}
-use Rattle.first_report.specs.Rows.{Shown, bounds_of, shown_of, shown_all, anything, parts_of, flag_parts, entry_for, row_from, strings_of, line_of, lines_from, alarm_if, place_alarms, alarms_from, report_of}
+use Rattle.first_report.specs.Rows.{Shown, bounds_of, shown_of, shown_all, parts_of, entry_for, row_from, strings_of, lines_from, alarm_if, alarms_from, report_of}
 use Rattle.first_report.proofs.Describing.{AreBounds}
 use Rattle.first_report.proofs.Placing.{base_known}
 

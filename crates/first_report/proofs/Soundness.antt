@@ -1,37 +1,33 @@
 -- The report of a program covers its runs.
-use Rattle.std.proofs.Common.{◌≡◌, ℕ, zero, suc, ◌+◌, ◌<◌, ◌≤◌, Bool, true, false, IsTrue, List, [], ◌∷◌, ◌++◌, length, get_or, map, Option, None, Some, ℤ, refl, sym, ◌∙◌, ap, inl, inr, arith}
+use Rattle.std.proofs.Common.{◌≡◌, ℕ, zero, suc, ◌+◌, ◌<◌, ◌≤◌, Bool, true, false, IsTrue, List, [], ◌∷◌, ◌++◌, length, get_or, map, Option, None, Some, ℤ, refl, inl, inr, arith}
 use Rattle.std.specs.Prelude.{slice_get}
 use Rattle.std.proofs.lemmas.Int.{ints}
-use Rattle.std.proofs.lemmas.Option.{slice_get-get_or}
-use Rattle.std.proofs.lemmas.List.{length-map, length-append}
 use Rattle.c_base.specs.declared.kind.Kind.{Kind}
 use Rattle.c_base.specs.declared.kind.Kind.TheVariants.{SignedOverflow, Initialization}
 use Rattle.c_base.specs.declared.number.Span.{Span}
 use Rattle.c_memory.specs.Layouts.{Layout}
 use Rattle.c_memory.specs.Memories.{Memory, born}
-use Rattle.c_prog.specs.Syntax.{is_shown, numbers_from, Stmts, Done, Returns}
+use Rattle.c_program.specs.Syntax.{is_shown, numbers_from, Stmts, Done, Returns}
 use Rattle.first_program.specs.Source.{Program, count_all}
 use Rattle.first_program.specs.SourceViews.{IsShaped}
 use Rattle.first_program.specs.Meaning.{meaning_of, stmts_of, int_type}
-use Rattle.c_mean.specs.Evaluation.{Env}
-use Rattle.c_mean.specs.Machine.{Work, Body, Brace, Close, Frame, State, Exit, queued, sites_of, exit_of, initial_memory}
-use Rattle.c_mean.proofs.Runs.{Good, good_run, lead}
-use Rattle.c_mean.proofs.Evaluation.{HasVariables, Shows, brace_reached}
+use Rattle.first_analysis.specs.Evaluation.{Env}
+use Rattle.c_machine.specs.Machine.{Work, Body, Brace, Close, Frame, State, Exit, queued, initial_memory}
+use Rattle.c_machine.proofs.Runs.{Good, good_run, lead}
+use Rattle.first_analysis.proofs.IntMachine.{HasVariables, Shows, brace_reached}
 use Rattle.first_analysis.specs.declared.content.Content.{Content}
 use Rattle.first_analysis.specs.declared.place.Place.{Place}
 use Rattle.first_analysis.specs.declared.evaluation.Kinds.{Kinds}
 use Rattle.first_analysis.specs.declared.range.Range.{Range}
 use Rattle.first_analysis.specs.Contents.{Row, IsWithin, HoldsRow, HoldsReached, Holds, FitsInt}
 use Rattle.first_analysis.specs.Values.{has_kind}
-use Rattle.first_analysis.specs.Tables.{Reached, PlaceSpot, spot_of, IsTable, IsAnalysis}
-use Rattle.first_analysis.proofs.Rows.{to_get}
+use Rattle.first_analysis.specs.Tables.{Reached, PlaceSpot, spot_of, IsAnalysis}
 use Rattle.first_analysis.proofs.Running.{Stands, IsEnding, GoesOn, statements_good}
-use Rattle.eva_report.specs.Report.{ReportStmt, ReportAlarm}
 use Rattle.eva_claim.specs.Numbering.{IsIn}
 use Rattle.eva_claim.specs.Claims.{IsCovered, IsAlarmed, IsSound, names_of}
-use Rattle.first_report.specs.Rows.{bounds_of, shown_of, shown_or, shown_all, anything, row_from, strings_of, line_of, lines_from, alarm_if, place_alarms, alarms_from, report_of}
+use Rattle.first_report.specs.Rows.{bounds_of, shown_of, shown_or, shown_all, anything, row_from, line_of, lines_from, alarm_if, place_alarms, alarms_from, report_of}
 use Rattle.first_report.proofs.Entries.{length-shown, shown_at}
-use Rattle.first_report.proofs.Placing.{has_variables, shows_born, nothing_before}
+use Rattle.first_report.proofs.Placing.{has_variables, still, shows_born, nothing_before}
 use Rattle.first_report.proofs.Describing.{Allows, AreBounds, row_describes}
 
 -- ---- what stands in the report
@@ -161,7 +157,7 @@ module _ (p : Program) (places : List Place) (l : Layout) (has : HasVariables l 
   place_alarms_in k place here kind h = alarm_in 1 places k place kind here h
 
   module _ (inner : List Place) (last : Place) (whole : places ≡ inner ++ last ∷ []) where
-    stands : Stands Reached HoldsReached l Cover Alarm (length p.variables) has 1 (map spot_of inner)
+    stands : Stands (meaning_of p) Reached HoldsReached l Cover Alarm (length p.variables) has (still p) 1 (map spot_of inner)
     stands = record {
       covers = λ k s e env m show held.
           let found = get_map inner k s e in
@@ -190,17 +186,17 @@ sound p places shaped an long l is s init ts run =
     let shows : Shows count (λ base. None) memory = shows_born l count (initial_memory (meaning_of p) l) has (nothing_before p l) in
     let cover = Cover p places l has long in
     let alarm = Alarm p places l has long in
-    let ends : IsEnding Reached HoldsReached l cover alarm count has (ending body end locals) = record { sites = refl; exit = exit body end locals; out = refl; last = refl } in
+    let ends : IsEnding (meaning_of p) Reached HoldsReached l cover alarm count has (still p) (ending body end locals) = record { sites = refl; exit = exit body end locals; out = refl; last = refl } in
     let number : 1 + length t.inner ≡ end = let m = t.many in omega arith in
-    let closes : (n : ℕ) → GoesOn Reached HoldsReached l cover alarm count has n (ending body end locals) t.after = λ n. record {
+    let closes : (n : ℕ) → GoesOn (meaning_of p) Reached HoldsReached l cover alarm count has (still p) n (ending body end locals) t.after = λ n. record {
       each = λ k h env m show holds.
-          lead l cover alarm (record { control = ending body end locals; held = []; memory = m }) (record { control = brace body end locals; held = []; memory = m }) refl (λ out step. step) k
-          (brace_reached l cover alarm count has end (Returns int_type) (Close ([] ++ locals) Done ∷ Frame 0 None ∷ []) [] m (exit body end locals) k refl refl
+          lead (meaning_of p) l cover alarm (record { control = ending body end locals; held = []; memory = m }) (record { control = brace body end locals; held = []; memory = m }) refl (λ out step. step) k
+          (brace_reached (meaning_of p) l cover alarm count has (still p) end (Returns int_type) (Close ([] ++ locals) Done ∷ Frame 0 None ∷ []) [] m (exit body end locals) k refl refl
           (rw number at (place_covers p places l has long (length t.inner) t.last (last_at p places l has long t.inner t.last t.whole) env m show (t.ends.each env holds))));
     } in
-    let good : (n : ℕ) → Good l cover alarm n first = λ n.
-    statements_good Reached HoldsReached l cover alarm count has p.body 1 (map spot_of t.inner) an.start t.after (ending body end locals) shaped.stmts t.flows
+    let good : (n : ℕ) → Good (meaning_of p) l cover alarm n first = λ n.
+    statements_good (meaning_of p) Reached HoldsReached l cover alarm count has (still p) p.body 1 (map spot_of t.inner) an.start t.after (ending body end locals) shaped.stmts t.flows
     (stands p places l has long t.inner t.last t.whole) ends n (closes n) (λ base. None) memory shows an.begins in
     let same : s ≡ first = let e : Some first ≡ Some s = init in cc in
-    let met = good_run l cover alarm first ts good (rw same at run) in
+    let met = good_run (meaning_of p) l cover alarm first ts good (rw same at run) in
     rw same (record { rows = met.rows; stops = met.stops })

@@ -1,9 +1,9 @@
 use Rattle.std.proofs.Common.{◌≡◌, [], drop, refl, subst, ◌∙◌, drop_of_length-le}
 use Rattle.c_base.specs.declared.integer.IntKind.TheVariants.{Int}
-use Rattle.c_prog.specs.Syntax.{Binary}
+use Rattle.c_program.specs.Syntax.{Binary}
 use Rattle.first_program.specs.SourceViews.{sum_tree}
 use Rattle.first_program.specs.Meaning.{sign_op, sum_expr}
-use Rattle.c_mean.specs.Evaluation.{value}
+use Rattle.first_analysis.specs.Evaluation.{value}
 use Rattle.first_analysis.specs.Values.{Gives}
 use Rattle.first_analysis.proofs.Sums.{run_on}
 use Rattle.first_analysis.proofs.evaluation.+adding.Goals as goal

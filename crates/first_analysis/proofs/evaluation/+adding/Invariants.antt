@@ -1,6 +1,6 @@
 use Rattle.std.proofs.Common.{drop}
-use Rattle.c_prog.specs.Syntax.{Expr}
-use Rattle.c_mean.specs.Evaluation.{Env, value}
+use Rattle.c_program.specs.Syntax.{Expr}
+use Rattle.first_analysis.specs.Evaluation.{Env, value}
 use Rattle.first_analysis.specs.Contents.{HoldsRow}
 use Rattle.first_analysis.specs.Values.{Gives}
 use Rattle.first_analysis.proofs.Sums.{Continues}

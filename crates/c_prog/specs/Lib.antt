@@ -1,3 +1,0 @@
-pub mod Syntax
-pub mod Valid
-pub mod Packing
