@@ -2,11 +2,13 @@
 //! expression, or an operator before two expressions. A statement is `;` or `r` (return) before an expression, `?` before a condition
 //! and two statements, `w` before a condition and a statement, `{` before an object or `_` and statements up to `}`, or `.` for none.
 
+ghost use Rattle.std.specs.Prelude.{◌≤◌, length, IfOk};
+
 use c_base::integer::{IntKind, Machine};
 use c_base::name::Name;
 use c_base::operators::BinOp;
 use c_memory::scalar::Scalar;
-use c_prog::base::BaseSort;
+use c_program::base::BaseSort;
 use c_stepper::number::Number;
 use c_stepper::tree::{Base, Expr, Function, Program, ResultType, Stmt, Stmts};
 use sqlite_items::Items;
@@ -47,6 +49,15 @@ fn operator_of(byte: u8) -> BinOp {
     }
 }
 
+/// Two trees, if there was memory for both.
+pub fn both<A: Drop, B: Drop>(
+    a: Result<A, AllocError>,
+    b: Result<B, AllocError>,
+) -> Result<(A, B), AllocError> {
+    let a = a?;
+    Ok((a, b?))
+}
+
 fn number(alloc: Global, n: u64) -> Result<Rc<Expr>, AllocError> {
     Ok(Rc::new(alloc, Expr::Number(IntKind::Int, Number::Natural(n)))?)
 }
@@ -74,8 +85,8 @@ fn expression(
             Ok(Rc::new(alloc, Expr::Assign(INT, base, value))?)
         }
         _ => {
-            let left = expression(alloc, text, at, fuel - 1)?;
-            let right = expression(alloc, text, at, fuel - 1)?;
+            let left = expression(alloc, text, at, fuel - 1);
+            let (left, right) = both(left, expression(alloc, text, at, fuel - 1))?;
             let op = operator_of(byte);
             Ok(Rc::new(alloc, Expr::Binary(op, IntKind::Int, left, right))?)
         }
@@ -113,15 +124,15 @@ fn statement(
         }
         b'?' => {
             let here = next_id(id);
-            let test = expression(alloc, text, at, 9)?;
-            let left = statement(alloc, text, at, id, fuel - 1)?;
-            let right = statement(alloc, text, at, id, fuel - 1)?;
+            let test = expression(alloc, text, at, 9);
+            let left = both(test, statement(alloc, text, at, id, fuel - 1));
+            let ((test, left), right) = both(left, statement(alloc, text, at, id, fuel - 1))?;
             Ok(Rc::new(alloc, Stmt::If(here, test, left, right))?)
         }
         b'w' => {
             let here = next_id(id);
-            let test = expression(alloc, text, at, 9)?;
-            let body = statement(alloc, text, at, id, fuel - 1)?;
+            let test = expression(alloc, text, at, 9);
+            let (test, body) = both(test, statement(alloc, text, at, id, fuel - 1))?;
             Ok(Rc::new(alloc, Stmt::While(here, test, body))?)
         }
         b'{' => {
@@ -151,8 +162,8 @@ fn statements(
         *at = here;
         return Ok(Rc::new(alloc, Stmts::Done)?);
     }
-    let stmt = statement(alloc, text, at, id, fuel - 1)?;
-    let more = statements(alloc, text, at, id, fuel - 1)?;
+    let stmt = statement(alloc, text, at, id, fuel - 1);
+    let (stmt, more) = both(stmt, statements(alloc, text, at, id, fuel - 1))?;
     Ok(Rc::new(alloc, Stmts::Next(stmt, more))?)
 }
 
@@ -166,25 +177,48 @@ fn base(alloc: Global, size: u32, sort: BaseSort) -> Result<Base, AllocError> {
     })
 }
 
+fn four_bases(alloc: Global) -> Result<Items<Base>, AllocError>
+    ensures { IfOk result (λ bases. length bases ≤ 4) }
+{
+    let mut bases = Items::new(alloc);
+    for (size, sort) in [
+        (1, BaseSort::Func),
+        (4, BaseSort::Local),
+        (4, BaseSort::Local),
+        (4, BaseSort::Static),
+    ] {
+        bases.push(base(alloc, size, sort)?)?;
+        if bases.len() > 4 {
+            bases = Items::new(alloc);
+        }
+    }
+    if bases.len() > 4 {
+        bases = Items::new(alloc);
+    }
+    Ok(bases)
+}
+
+/// `main` with a body that ends with the number.
+fn main_of(alloc: Global, body: Rc<Stmts>, end: u32) -> Result<Items<Function>, AllocError> {
+    let (body, locals) = both(Ok(body), Items::from_slice(alloc, &[1]))?;
+    let mut functions = Items::new(alloc);
+    functions.push(Function {
+        base: 0,
+        result: ResultType::Returns(INT),
+        formals: Items::new(alloc),
+        locals,
+        body,
+        end,
+    })?;
+    Ok(functions)
+}
+
 /// The program whose main has the statements of the text.
 pub fn program(alloc: Global, text: &[u8]) -> Result<Program, AllocError> {
     let mut id = 1u32;
     let body = statements(alloc, text, &mut 0, &mut id, 20)?;
-    let main = Function {
-        base: 0,
-        result: ResultType::Returns(INT),
-        formals: Items::new(alloc),
-        locals: Items::from_slice(alloc, &[1])?,
-        body,
-        end: id,
-    };
-    let mut bases = Items::new(alloc);
-    bases.push(base(alloc, 1, BaseSort::Func)?)?;
-    bases.push(base(alloc, 4, BaseSort::Local)?)?;
-    bases.push(base(alloc, 4, BaseSort::Local)?)?;
-    bases.push(base(alloc, 4, BaseSort::Static)?)?;
-    let mut functions = Items::new(alloc);
-    functions.push(main)?;
+    let functions = main_of(alloc, body, id)?;
+    let bases = four_bases(alloc)?;
     Ok(Program {
         machine: Machine::Lp64,
         bases,

@@ -7,12 +7,13 @@ use c_stepper::layout::{Layout, Object};
 use c_stepper::memory::cells_in;
 use c_stepper::number::Number;
 use c_stepper::stepper::Stepper;
+use c_stepper::tree::Program;
 use c_stepper::value::{Cell, Held};
 use c_stepper::work::{Outcome, State, arrival_of};
 use sqlite_items::Items;
 use std::alloc::{AllocError, Global};
 
-fn digit(n: u64) -> u8 {
+pub fn digit(n: u64) -> u8 {
     if n < 10 {
         return (n as u8).wrapping_add(b'0');
     }
@@ -108,39 +109,69 @@ fn tell_arrival(stepper: &Stepper, state: &State, told: &mut Vec<u8>) -> Result<
     Ok(())
 }
 
-/// What is told of the run of main, in the packed layout or in one with gaps; `*` where it doesn't end within 200 steps.
-pub fn told(alloc: Global, text: &[u8], packed: bool) -> Result<Vec<u8>, AllocError> {
-    let mut told = Vec::new(alloc);
-    let program = program(alloc, text)?;
-    let stepper = match Stepper::new(alloc, &program)? {
-        Some(stepper) => if packed { stepper } else { spread(alloc)? },
-        None => return Ok(told),
+/// Carries out one step, and tells how the run ends where it does.
+fn tell_step(stepper: &Stepper, state: &mut State, told: &mut Vec<u8>) -> Result<bool, AllocError> {
+    let (first, second) = match stepper.step(state)? {
+        Outcome::Goes => return Ok(false),
+        Outcome::Stops(kind, id, _) => (kind_byte(kind), digit(id as u64)),
+        Outcome::Ends => (b'=', held_byte(state.held.pop())),
     };
-    let Some(mut state) = stepper.start(&program)? else {
-        return Ok(told);
-    };
+    told.push(first)?;
+    told.push(second)?;
+    Ok(true)
+}
+
+fn tell_steps(stepper: &Stepper, state: &mut State, told: &mut Vec<u8>) -> Result<(), AllocError> {
     for _ in 0..200 {
-        tell_arrival(&stepper, &state, &mut told)?;
-        match stepper.step(&mut state)? {
-            Outcome::Goes => {}
-            Outcome::Stops(kind, id, _) => {
-                told.push(kind_byte(kind))?;
-                told.push(digit(id as u64))?;
-                return Ok(told);
-            }
-            Outcome::Ends => {
-                told.push(b'=')?;
-                told.push(held_byte(state.held.pop()))?;
-                return Ok(told);
-            }
+        tell_arrival(stepper, state, told)?;
+        if tell_step(stepper, state, told)? {
+            return Ok(());
         }
     }
     told.push(b'*')?;
+    Ok(())
+}
+
+fn tell_run(stepper: &Stepper, program: &Program, told: &mut Vec<u8>) -> Result<(), AllocError> {
+    match stepper.start(program)? {
+        Some(mut state) => tell_steps(stepper, &mut state, told),
+        None => Ok(()),
+    }
+}
+
+fn stepper_of(
+    alloc: Global,
+    program: &Program,
+    packed: bool,
+) -> Result<Option<Stepper>, AllocError> {
+    if packed {
+        Stepper::new(alloc, program)
+    } else {
+        Ok(Some(spread(alloc)?))
+    }
+}
+
+fn tell_program(
+    alloc: Global,
+    program: &Program,
+    packed: bool,
+    told: &mut Vec<u8>,
+) -> Result<(), AllocError> {
+    match stepper_of(alloc, program, packed)? {
+        Some(stepper) => tell_run(&stepper, program, told),
+        None => Ok(()),
+    }
+}
+
+/// What is told of the run of main, in the packed layout or in one with gaps; `*` where it doesn't end within 200 steps.
+pub fn told(alloc: Global, text: &[u8], packed: bool) -> Result<Vec<u8>, AllocError> {
+    let program = program(alloc, text)?;
+    let mut told = Vec::new(alloc);
+    tell_program(alloc, &program, packed, &mut told)?;
     Ok(told)
 }
 
 pub fn runs_so(alloc: Global, text: &[u8], expected: &[u8]) -> Result<bool, AllocError> {
-    let packed = told(alloc, text, true)?;
-    let spread = told(alloc, text, false)?;
-    Ok(packed.as_slice() == expected && spread.as_slice() == expected)
+    let packed = told(alloc, text, true)?.as_slice() == expected;
+    Ok(told(alloc, text, false)?.as_slice() == expected && packed)
 }

@@ -1,5 +1,5 @@
-use crate::reading::large;
-use crate::runs::{held_byte, kind_byte, runs_so, told};
+use crate::reading::{both, large};
+use crate::runs::{digit, held_byte, kind_byte, runs_so, told};
 use c_base::integer::{IntKind, Machine};
 use c_base::kind::Kind;
 use c_memory::scalar::Scalar;
@@ -74,20 +74,30 @@ fn bare(alloc: Global) -> Stepper {
     }
 }
 
-/// A state in which a function that has base 1 as an object hands over what is held, to a caller whose `return` is statement 7.
-fn leaving(alloc: Global, held: Held, work: Work) -> Result<State, AllocError> {
+fn pushed<T: Drop>(stack: Result<Stack<T>, AllocError>, item: T) -> Result<Stack<T>, AllocError> {
+    let mut stack = stack?;
+    stack.push(item)?;
+    Ok(stack)
+}
+
+/// A function that has base 1 as an object, and its caller, whose `return` is statement 7.
+fn frames(alloc: Global) -> Result<Stack<Work>, AllocError> {
     let mut control = Stack::new(alloc);
     control.push(Work::Frame(0, None))?;
     control.push(Work::Deliver(7))?;
     control.push(Work::Frame(9, Some(3)))?;
     let objects = Items::from_slice(alloc, &[1])?;
     control.push(Work::Close(objects, Rc::new(alloc, Stmts::Done)?))?;
-    control.push(work)?;
-    let mut stack = Stack::new(alloc);
-    stack.push(held)?;
+    Ok(control)
+}
+
+/// A state in which that function hands over what is held.
+fn leaving(alloc: Global, held: Held, work: Work) -> Result<State, AllocError> {
+    let control = pushed(frames(alloc), work);
+    let (control, held) = both(control, pushed(Ok(Stack::new(alloc)), held))?;
     Ok(State {
         control,
-        held: stack,
+        held,
         memory: Stack::new(alloc),
     })
 }
@@ -99,50 +109,58 @@ fn pointer(alloc: Global, base: u32) -> Result<Value, AllocError> {
     })
 }
 
-/// The kind with which the next step stops, and its statement.
-fn stops_with(stepper: &Stepper, state: &mut State, kind: u8, at: u32) -> Result<bool, AllocError> {
+fn step_bytes(stepper: &Stepper, state: &mut State) -> Result<[u8; 2], AllocError> {
     match stepper.step(state)? {
-        Outcome::Stops(found, id, _) => Ok(kind_byte(found) == kind && id == at),
-        _ => Ok(false),
+        Outcome::Goes => Ok(*b"go"),
+        Outcome::Stops(kind, id, _) => Ok([kind_byte(kind), digit(id as u64)]),
+        Outcome::Ends => Ok(*b"no"),
     }
 }
 
-fn goes(stepper: &Stepper, state: &mut State) -> Result<bool, AllocError> {
-    match stepper.step(state)? {
-        Outcome::Goes => Ok(true),
-        _ => Ok(false),
-    }
+/// Whether the first two steps do so: each goes, or stops with a kind at a statement.
+fn leaves_so(
+    alloc: Global,
+    held: Held,
+    work: Work,
+    first: [u8; 2],
+    second: [u8; 2],
+) -> Result<bool, AllocError> {
+    let mut state = leaving(alloc, held, work)?;
+    let stepper = bare(alloc);
+    let one = step_bytes(&stepper, &mut state)?;
+    Ok(one == first && step_bytes(&stepper, &mut state)? == second)
+}
+
+/// What is held when the function has been left.
+fn held_behind(alloc: Global, held: Held, work: Work) -> Result<Option<Held>, AllocError> {
+    let mut state = leaving(alloc, held, work)?;
+    step_bytes(&bare(alloc), &mut state)?;
+    Ok(state.held.pop())
 }
 
 #[test]
 fn a_returned_scalar_is_used(rt: HostRuntime) -> Result<(), Fail> {
     let alloc = rt.alloc();
-    let stepper = bare(alloc);
     let int = ResultType::Returns(Scalar::Integer(IntKind::Int));
-    let mut fallen = leaving(alloc, Held::Absent, Work::Brace(4, int))?;
-    assert!(rt; goes(&stepper, &mut fallen)?);
-    assert!(rt; stops_with(&stepper, &mut fallen, b'i', 7)?);
+    assert!(rt; leaves_so(alloc, Held::Absent, Work::Brace(4, int), *b"go", *b"i7")?);
     let unusable = Held::Unusable(Kind::Initialization);
-    let mut uninit = leaving(alloc, unusable, Work::Deliver(2))?;
-    assert!(rt; stops_with(&stepper, &mut uninit, b'i', 2)?);
+    assert!(rt;
+        step_bytes(
+            &bare(alloc),
+            &mut leaving(alloc, unusable, Work::Deliver(2))?
+        )? == *b"i2"
+    );
     let dead = Held::Usable(pointer(alloc, 1)?);
-    let mut dangling = leaving(alloc, dead, Work::Deliver(2))?;
-    assert!(rt; goes(&stepper, &mut dangling)?);
-    assert!(rt; stops_with(&stepper, &mut dangling, b'd', 7)?);
+    assert!(rt; leaves_so(alloc, dead, Work::Deliver(2), *b"go", *b"d7")?);
     let live = Held::Usable(pointer(alloc, 2)?);
-    let mut other = leaving(alloc, live, Work::Deliver(2))?;
-    assert!(rt; goes(&stepper, &mut other)?);
-    assert!(rt; held_byte(other.held.pop()) == b'5');
+    assert!(rt; held_byte(held_behind(alloc, live, Work::Deliver(2))?) == b'5');
     Ok(())
 }
 
 #[test]
 fn a_void_function_has_no_value(rt: HostRuntime) -> Result<(), Fail> {
-    let alloc = rt.alloc();
-    let stepper = bare(alloc);
-    let mut state = leaving(alloc, Held::Absent, Work::Brace(4, ResultType::Void))?;
-    assert!(rt; goes(&stepper, &mut state)?);
-    assert!(rt; held_byte(state.held.pop()) == b'a');
+    let void = Work::Brace(4, ResultType::Void);
+    assert!(rt; held_byte(held_behind(rt.alloc(), Held::Absent, void)?) == b'a');
     Ok(())
 }
 
@@ -163,26 +181,32 @@ fn is_half_dead(held: Option<Held>) -> bool {
     dead == 1 && bits == 1
 }
 
-#[test]
-fn cells_of_a_returned_struct_die(rt: HostRuntime) -> Result<(), Fail> {
-    let alloc = rt.alloc();
-    let stepper = bare(alloc);
+/// A bit that was made from the address of the dying base, and one from that of another.
+fn two_bits(alloc: Global) -> Result<Items<Cell>, AllocError> {
     let mut cells = Items::new(alloc);
     for base in [1, 2] {
         cells.push(Cell::Bit(true, Items::from_slice(alloc, &[base])?, 0))?;
     }
-    let mut state = leaving(alloc, Held::Cells(cells), Work::Deliver(2))?;
-    assert!(rt; goes(&stepper, &mut state)?);
-    assert!(rt; is_half_dead(state.held.pop()));
+    Ok(cells)
+}
+
+#[test]
+fn cells_of_a_returned_struct_die(rt: HostRuntime) -> Result<(), Fail> {
+    let alloc = rt.alloc();
+    let cells = Held::Cells(two_bits(alloc)?);
+    assert!(rt; is_half_dead(held_behind(alloc, cells, Work::Deliver(2))?));
     Ok(())
+}
+
+fn has_room(alloc: Global, last: u32) -> Result<bool, AllocError> {
+    let program = large(alloc, 32768, 0xffff_ffff, last)?;
+    Ok(Stepper::new(alloc, &program)?.is_some())
 }
 
 #[test]
 fn bases_have_room_up_to_the_last_address(rt: HostRuntime) -> Result<(), Fail> {
     let alloc = rt.alloc();
-    let full = large(alloc, 32768, 0xffff_ffff, 32767)?;
-    assert!(rt; Stepper::new(alloc, &full)?.is_some());
-    let more = large(alloc, 32768, 0xffff_ffff, 32768)?;
-    assert!(rt; Stepper::new(alloc, &more)?.is_none());
+    assert!(rt; has_room(alloc, 32767)?);
+    assert!(rt; !has_room(alloc, 32768)?);
     Ok(())
 }

@@ -1,0 +1,7 @@
+//! Tests of typed programs: what functions count, and copies.
+#![tactic(auto)]
+
+#[cfg(test)]
+mod building;
+#[cfg(test)]
+mod weights;
