@@ -1,4 +1,2 @@
 pub mod Extending
-pub mod Growing
 pub mod Levels
-pub mod Rounds

@@ -1,10 +1,7 @@
-//! Reads expressions (C11 6.5), level by level. Each rule is generic in what reads the operands of its node.
+//! Reads expressions (C11 6.5.3 to 6.5.17), level by level. Each rule is generic in what reads the operands of its node.
 #![tactic(auto)]
 
 mod expression;
-mod operands;
-mod postfix;
-mod primary;
 mod runs;
 mod unary;
 

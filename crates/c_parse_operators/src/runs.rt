@@ -4,7 +4,7 @@ ghost use Rattle.c_tree.specs.Nesting.{nest, nest_all};
 ghost use Rattle.c_tree.specs.Trees.{Operand, Run};
 ghost use Rattle.c_tree.specs.Views.{tree_of, operand_tree, operands_of};
 ghost use Rattle.c_tree.specs.WellFormed.{after, after_all};
-ghost use Rattle.c_parse_operators.specs.AtDepth.{next_operand, all_operands, run_of, run_at, runs};
+ghost use Rattle.c_parse_postfix.specs.AtDepth.{next_operand, all_operands, run_of, run_at, runs};
 ghost use Rattle.c_parse_base.specs.Heights.{capped};
 ghost use Rattle.c_parse_base.specs.KnownNames.{kept};
 ghost use Rattle.c_parse_base.specs.Reads.{found_of, IsFound, AreFound, IsGrown};

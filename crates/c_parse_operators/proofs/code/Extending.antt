@@ -8,7 +8,7 @@ use Rattle.c_tree.specs.Trees.{Assignment}
 use Rattle.c_tree.specs.Views.{tree_of}
 use Rattle.c_tree.specs.WellFormed.{Names, ForType, after, level_of}
 use Rattle.c_tree.specs.declared.tree.Expr.{Expr}
-use Rattle.c_parse_operators.specs.AtDepth.{assignment_at, branches_at, comma_at, comma_of, all_listed, conditional_at, runs, value_at}
+use Rattle.c_parse_postfix.specs.AtDepth.{assignment_at, branches_at, comma_at, comma_of, all_listed, conditional_at, runs, value_at}
 use Rattle.c_parse_base.specs.Heights.{capped}
 use Rattle.c_parse_operators.specs.Pairs.{Branches, branches_behind, branches_of, with_branches, AreBranches, AreAfterBranches, Value, value_behind, value_of, IsValue, IsAfterValue}
 use Rattle.c_parse_rules.specs.Parsers.{expr_at, typing_at}

@@ -5,7 +5,7 @@ use Rattle.c_tree.specs.Nesting.{nest}
 use Rattle.c_tree.specs.Views.{tree_of}
 use Rattle.c_tree.specs.WellFormed.{Names, after}
 use Rattle.c_tree.specs.declared.tree.Expr.{Expr}
-use Rattle.c_parse_operators.specs.AtDepth.{run_at, runs}
+use Rattle.c_parse_postfix.specs.AtDepth.{run_at, runs}
 use Rattle.c_parse_base.specs.Heights.{capped}
 use Rattle.c_parse_base.specs.Reads.{found_of, IsGrown}
 use Rattle.c_parse_rules.specs.Rules.{Found, levels}

@@ -1,8 +1,8 @@
 use Rattle.c_tree.specs.Views.{tree_of}
-use Rattle.c_parse_operators.specs.AtDepth.{comma_at, comma_of}
+use Rattle.c_parse_postfix.specs.AtDepth.{comma_at, comma_of}
 use Rattle.c_parse_base.specs.Reads.{found_of}
 use Rattle.c_parse_operators.proofs.code.Extending.{loose, no_commas, no_depth, with_commas, unchanged}
-use Rattle.c_parse_operators.proofs.code.Growing.{put_together, tested}
+use Rattle.c_parse_postfix.proofs.code.Growing.{put_together, tested}
 use Rattle.c_parse_operators.proofs.expression.comma_at.Goals as goal
 
 pub returns-then-least-gt0-clause-found : goal.returns-then-least-gt0-clause-found

@@ -1,7 +1,7 @@
 use Rattle.c_tree.specs.Views.{tree_of}
 use Rattle.c_parse_base.specs.Reads.{found_of}
 use Rattle.c_parse_operators.proofs.code.Extending.{loose, no_branches, no_room, put_conditional, unchanged}
-use Rattle.c_parse_operators.proofs.code.Growing.{tested}
+use Rattle.c_parse_postfix.proofs.code.Growing.{tested}
 use Rattle.c_parse_operators.proofs.expression.conditional_at.Goals as goal
 
 pub returns-then-least-gt2-clause-found : goal.returns-then-least-gt2-clause-found

@@ -1,4 +1,4 @@
-use Rattle.c_parse_operators.specs.AtDepth.{conditional_at}
+use Rattle.c_parse_postfix.specs.AtDepth.{conditional_at}
 use Rattle.c_parse_operators.proofs.code.Extending.{all_grown}
 use Rattle.c_parse_operators.proofs.expression.unassigned.Goals as goal
 

@@ -1,8 +1,8 @@
 use Rattle.std.proofs.Common.{◌∙◌, refl}
 use Rattle.c_tree.specs.Views.{operand_tree}
-use Rattle.c_parse_operators.specs.AtDepth.{all_operands}
+use Rattle.c_parse_postfix.specs.AtDepth.{all_operands}
 use Rattle.c_parse_base.proofs.code.Loops.{begun, read_on, read_end}
-use Rattle.c_parse_operators.proofs.code.Rounds.{operands_go_on, operands_stop}
+use Rattle.c_parse_postfix.proofs.code.Rounds.{operands_go_on, operands_stop}
 use Rattle.c_parse_operators.proofs.runs.operands_at.Goals as goal
 
 pub reading-init : goal.reading-init

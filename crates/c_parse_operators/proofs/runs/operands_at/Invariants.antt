@@ -1,6 +1,6 @@
 use Rattle.std.proofs.Common.{◌≡◌, [], length}
 use Rattle.c_tree.specs.Views.{operand_tree}
-use Rattle.c_parse_operators.specs.AtDepth.{operands, all_operands}
+use Rattle.c_parse_postfix.specs.AtDepth.{operands, all_operands}
 use Rattle.c_parse_base.specs.KnownNames.{kept}
 use Rattle.c_parse_base.proofs.code.Loops.{Midst}
 use Rattle.c_parse_operators.proofs.runs.operands_at.Given as goal

@@ -1,7 +1,7 @@
 use Rattle.c_tree.specs.Views.{tree_of, operand_tree}
-use Rattle.c_parse_operators.specs.AtDepth.{run_at, run_of}
+use Rattle.c_parse_postfix.specs.AtDepth.{run_at, run_of}
 use Rattle.c_parse_base.specs.Reads.{found_of}
-use Rattle.c_parse_operators.proofs.code.Growing.{put_together, tested, with_operands}
+use Rattle.c_parse_postfix.proofs.code.Growing.{put_together, tested, with_operands}
 use Rattle.c_parse_operators.proofs.runs.run_at.Goals as goal
 
 pub returns-clause-found : goal.returns-clause-found

@@ -2,7 +2,7 @@
 ghost use Rattle.std.specs.Prelude.{◌≡◌, ◌≤◌, ◌∷◌, [], suc, length, IfOk};
 ghost use Rattle.c_tree.specs.Trees.{Parenthesised, Offsetof, Text};
 ghost use Rattle.c_tree.specs.Views.{tree_of, type_name_tree};
-ghost use Rattle.c_parse_operators.specs.AtDepth.{parenthesised_at, offsetof_at, primary_of, primary_at};
+ghost use Rattle.c_parse_postfix.specs.AtDepth.{parenthesised_at, offsetof_at, primary_of, primary_at};
 ghost use Rattle.c_parse_base.specs.Heights.{capped};
 ghost use Rattle.c_parse_base.specs.KnownNames.{kept};
 ghost use Rattle.c_parse_base.specs.Reads.{found_of, IsFound};

@@ -1,9 +1,9 @@
 use Rattle.std.proofs.Common.{◌≡◌, [], length}
 use Rattle.c_tree.specs.Views.{part_tree}
-use Rattle.c_parse_operators.specs.AtDepth.{parts, all_parts}
+use Rattle.c_parse_postfix.specs.AtDepth.{parts, all_parts}
 use Rattle.c_parse_base.specs.KnownNames.{kept}
 use Rattle.c_parse_base.proofs.code.Loops.{Midst}
-use Rattle.c_parse_operators.proofs.postfix.parts_at.Given as goal
+use Rattle.c_parse_postfix.proofs.postfix.parts_at.Given as goal
 
 abbrev pub invariant-reading : goal.invariant-reading
 invariant-reading g l =

@@ -6,7 +6,7 @@ use Rattle.c_tree.specs.Trees.{Tree}
 use Rattle.c_tree.specs.Views.{listed}
 use Rattle.c_tree.specs.WellFormed.{Names, after, after_all}
 use Rattle.c_parse_base.specs.Heights.{capped}
-use Rattle.c_parse_operators.specs.AtDepth.{postfix_at, postfix_of, all_parts, run_at, run_of, all_operands}
+use Rattle.c_parse_postfix.specs.AtDepth.{postfix_at, postfix_of, all_parts, run_at, run_of, all_operands}
 use Rattle.c_parse_rules.specs.Rules as rules
 use Rattle.c_parse_rules.specs.Rules.{Found, Several}
 use Rattle.c_parse_base.specs.Reads.{found_of, AreFound, IsGrown}

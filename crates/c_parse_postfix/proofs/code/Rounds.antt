@@ -5,7 +5,7 @@ use Rattle.c_base.specs.declared.token.Token.{Token}
 use Rattle.c_tree.specs.declared.operator.BinaryOperator.{BinaryOperator}
 use Rattle.c_tree.specs.Trees.{Tree, Operand}
 use Rattle.c_tree.specs.WellFormed.{Names, ForType, after}
-use Rattle.c_parse_operators.specs.AtDepth.{behind_commas, behind_comma, next_listed, operands, operand_of, behind_operator, next_operand, parts, part_at}
+use Rattle.c_parse_postfix.specs.AtDepth.{behind_commas, behind_comma, next_listed, operands, operand_of, behind_operator, next_operand, parts, part_at}
 use Rattle.c_parse_rules.specs.Parsers.{expr_at, typing_at}
 use Rattle.c_parse_rules.specs.Rules.{Found, listed_behind, operands_with, operands_behind}
 use Rattle.c_parse_rules.specs.Tokens.{behind_mark, operator_at}

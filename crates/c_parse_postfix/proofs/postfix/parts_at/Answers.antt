@@ -1,9 +1,9 @@
 use Rattle.std.proofs.Common.{◌∙◌, refl}
 use Rattle.c_tree.specs.Views.{part_tree}
-use Rattle.c_parse_operators.specs.AtDepth.{all_parts}
+use Rattle.c_parse_postfix.specs.AtDepth.{all_parts}
 use Rattle.c_parse_base.proofs.code.Loops.{begun, read_on, read_end}
-use Rattle.c_parse_operators.proofs.code.Rounds.{parts_go_on, parts_stop}
-use Rattle.c_parse_operators.proofs.postfix.parts_at.Goals as goal
+use Rattle.c_parse_postfix.proofs.code.Rounds.{parts_go_on, parts_stop}
+use Rattle.c_parse_postfix.proofs.postfix.parts_at.Goals as goal
 
 pub reading-init : goal.reading-init
 unfolding all_parts

@@ -4,7 +4,7 @@ ghost use Rattle.c_tree.specs.Nesting.{nest, nest_all};
 ghost use Rattle.c_tree.specs.Trees.{Postfix};
 ghost use Rattle.c_tree.specs.WellFormed.{after, after_all};
 ghost use Rattle.c_tree.specs.Views.{tree_of, part_tree, exprs_of, parts_of};
-ghost use Rattle.c_parse_operators.specs.AtDepth.{index_at, call_at, part_of, part_at, all_parts, postfix_of, postfix_at, arguments_at, all_listed, next_listed};
+ghost use Rattle.c_parse_postfix.specs.AtDepth.{index_at, call_at, part_of, part_at, all_parts, postfix_of, postfix_at, arguments_at, all_listed, next_listed};
 ghost use Rattle.c_parse_base.specs.Heights.{capped};
 ghost use Rattle.c_parse_base.specs.KnownNames.{kept};
 ghost use Rattle.c_parse_base.specs.Reads.{found_of, IsFound, AreFound, IsGrown};

@@ -1,9 +1,9 @@
 use Rattle.std.proofs.Common.{◌∙◌, refl}
 use Rattle.c_tree.specs.Views.{tree_of}
-use Rattle.c_parse_operators.specs.AtDepth.{all_listed}
+use Rattle.c_parse_postfix.specs.AtDepth.{all_listed}
 use Rattle.c_parse_base.proofs.code.Loops.{begun, read_on, read_end}
-use Rattle.c_parse_operators.proofs.code.Rounds.{listed_goes_on, listed_stops}
-use Rattle.c_parse_operators.proofs.postfix.behind_commas.Goals as goal
+use Rattle.c_parse_postfix.proofs.code.Rounds.{listed_goes_on, listed_stops}
+use Rattle.c_parse_postfix.proofs.postfix.behind_commas.Goals as goal
 
 pub reading-init : goal.reading-init
 unfolding all_listed

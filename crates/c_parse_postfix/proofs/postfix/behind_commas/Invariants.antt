@@ -1,9 +1,9 @@
 use Rattle.std.proofs.Common.{◌≡◌, length, map}
 use Rattle.c_tree.specs.Views.{tree_of}
-use Rattle.c_parse_operators.specs.AtDepth.{behind_commas, all_listed}
+use Rattle.c_parse_postfix.specs.AtDepth.{behind_commas, all_listed}
 use Rattle.c_parse_base.specs.KnownNames.{kept}
 use Rattle.c_parse_base.proofs.code.Loops.{Midst}
-use Rattle.c_parse_operators.proofs.postfix.behind_commas.Given as goal
+use Rattle.c_parse_postfix.proofs.postfix.behind_commas.Given as goal
 
 abbrev pub invariant-reading : goal.invariant-reading
 invariant-reading g l =

@@ -1,8 +1,8 @@
 use Rattle.c_tree.specs.Views.{tree_of, part_tree}
-use Rattle.c_parse_operators.specs.AtDepth.{postfix_at, postfix_of}
+use Rattle.c_parse_postfix.specs.AtDepth.{postfix_at, postfix_of}
 use Rattle.c_parse_base.specs.Reads.{found_of}
-use Rattle.c_parse_operators.proofs.code.Growing.{put_together, tested, with_parts}
-use Rattle.c_parse_operators.proofs.postfix.postfix_at.Goals as goal
+use Rattle.c_parse_postfix.proofs.code.Growing.{put_together, tested, with_parts}
+use Rattle.c_parse_postfix.proofs.postfix.postfix_at.Goals as goal
 
 pub returns-clause-found : goal.returns-clause-found
 returns-clause-found g c =
