@@ -19,31 +19,31 @@ use Rattle.offmap_laws.specs.Contents.{AllAlike, SingleLaws, DeathLaws}
 
 -- ---- single contents
 
-module _ {K : Type 0} (alike : K → K → Bool) where
-  alike_both : (n : ℕ) (js ks : List K) → AllAlike alike (take n js) (take n ks) → AllAlike alike (drop n js) (drop n ks) → AllAlike alike js ks
+module _ {K : Type 0} (Alike : K → K → Type 0) where
+  alike_both : (n : ℕ) (js ks : List K) → AllAlike Alike (take n js) (take n ks) → AllAlike Alike (drop n js) (drop n ks) → AllAlike Alike js ks
   alike_both zero js ks a b = b
   alike_both (suc n) [] [] a b = tt
   alike_both (suc n) [] (k ∷ ks) a b = absurd a
   alike_both (suc n) (j ∷ js) [] a b = absurd a
   alike_both (suc n) (j ∷ js) (k ∷ ks) a b = (a.0, alike_both n js ks a.1 b)
 
-  alike_front : (is js ds es : List K) → length is ≡ length js → AllAlike alike (is ++ ds) (js ++ es) → AllAlike alike is js
+  alike_front : (is js ds es : List K) → length is ≡ length js → AllAlike Alike (is ++ ds) (js ++ es) → AllAlike Alike is js
   alike_front [] [] ds es w a = tt
   alike_front [] (j ∷ js) ds es w a = absurd (omega arith)
   alike_front (i ∷ is) [] ds es w a = absurd (omega arith)
   alike_front (i ∷ is) (j ∷ js) ds es w a = (a.0, alike_front is js ds es (omega arith) a.1)
 
-  alike_rest : (is ds es : List K) → AllAlike alike (is ++ ds) (is ++ es) → AllAlike alike ds es
+  alike_rest : (is ds es : List K) → AllAlike Alike (is ++ ds) (is ++ es) → AllAlike Alike ds es
   alike_rest [] ds es a = a
   alike_rest (i ∷ is) ds es a = alike_rest is ds es a.1
 
-module _ {C K : Type 0} (Fine : ℕ → C → Type 0) (Allows : ℕ → C → List K → Type 0) (alike : K → K → Bool) (single : ℕ → C → Bool) (l : SingleLaws Fine Allows alike single) where
-  pub single_describes : (m : List (Element C)) (js ks : List K) → AllFine Fine m → all_single single m ≡ true → Describes Allows m js → Describes Allows m ks → AllAlike alike js ks
+module _ {C K : Type 0} (Fine : ℕ → C → Type 0) (Allows : ℕ → C → List K → Type 0) (Alike : K → K → Type 0) (single : ℕ → C → Bool) (l : SingleLaws Fine Allows Alike single) where
+  pub single_describes : (m : List (Element C)) (js ks : List K) → AllFine Fine m → all_single single m ≡ true → Describes Allows m js → Describes Allows m ks → AllAlike Alike js ks
   unfolding all_single
-  single_describes [] js ks f h a b = subst (λ (x : List K). AllAlike alike x ks) (sym a) (subst (AllAlike alike []) (sym b) tt)
+  single_describes [] js ks f h a b = subst (λ (x : List K). AllAlike Alike x ks) (sym a) (subst (AllAlike Alike []) (sym b) tt)
   single_describes (e ∷ es) js ks f h a b =
       let p = and_parts (single e.bits e.cell) (list_all (λ (x : Element C). single x.bits x.cell) es) h in
-      alike_both alike e.bits js ks (l.single_one e.bits e.cell (take e.bits js) (take e.bits ks) f.0 p.0 a.0 b.0) (single_describes es (drop e.bits js) (drop e.bits ks) f.1 p.1 a.1 b.1)
+      alike_both Alike e.bits js ks (l.single_one e.bits e.cell (take e.bits js) (take e.bits ks) f.0 p.0 a.0 b.0) (single_describes es (drop e.bits js) (drop e.bits ks) f.1 p.1 a.1 b.1)
 
   -- an element's content, and the others'
   joined_content : (e : Element C) (es : List (Element C)) (js ks : List K) → Allows e.bits e.cell js → Describes Allows es ks → Describes Allows (e ∷ es) (js ++ ks)
@@ -60,16 +60,16 @@ module _ {C K : Type 0} (Fine : ℕ → C → Type 0) (Allows : ℕ → C → Li
       let b = some_content es f.1 in
       (a.0 ++ b.0, joined_content e es a.0 b.0 a.1 b.1)
 
-  pub one_is_single : (m : List (Element C)) → AllFine Fine m → ((js ks : List K) → Describes Allows m js → Describes Allows m ks → AllAlike alike js ks) → all_single single m ≡ true
+  pub one_is_single : (m : List (Element C)) → AllFine Fine m → ((js ks : List K) → Describes Allows m js → Describes Allows m ks → AllAlike Alike js ks) → all_single single m ≡ true
   unfolding all_single
   one_is_single [] f h = refl
   one_is_single (e ∷ es) f h =
       let a = l.some e.bits e.cell f.0 in
       let b = some_content es f.1 in
       let first : single e.bits e.cell ≡ true =
-      l.one_single e.bits e.cell f.0 (λ js ks u v. alike_front alike js ks b.0 b.0 (l.wide e.bits e.cell js u ∙ sym (l.wide e.bits e.cell ks v))
+      l.one_single e.bits e.cell f.0 (λ js ks u v. alike_front Alike js ks b.0 b.0 (l.wide e.bits e.cell js u ∙ sym (l.wide e.bits e.cell ks v))
       (h (js ++ b.0) (ks ++ b.0) (joined_content e es js b.0 u b.1) (joined_content e es ks b.0 v b.1))) in
-      let rest = one_is_single es f.1 (λ js ks u v. alike_rest alike a.0 js ks (h (a.0 ++ js) (a.0 ++ ks) (joined_content e es a.0 js a.1 u) (joined_content e es a.0 ks a.1 v))) in
+      let rest = one_is_single es f.1 (λ js ks u v. alike_rest Alike a.0 js ks (h (a.0 ++ js) (a.0 ++ ks) (joined_content e es a.0 js a.1 u) (joined_content e es a.0 ks a.1 v))) in
       and_from _ _ first rest
 
 -- ---- deaths

@@ -6,25 +6,31 @@ use cell_runs::cells::Cells;
 
 /// The concrete bits that cells describe.
 pub trait Concrete<C: Cells> {
+    /// What the meaning of cells depends on, such as where objects stand.
+    ghost World: { Type 0 };
+
     /// A bit of memory as it is in a run.
-    type Bit;
+    ghost Bit: { Type 0 };
 
     /// It is made from no base but those of the hue, or is not written or dead as that allows.
-    ghost tint: { C.Hue → Self.Bit → Type 0 };
+    ghost tint: { C.Hue → Bit → Type 0 };
 
     /// It is not written or dead.
-    ghost bare: { Self.Bit → Type 0 };
+    ghost bare: { Bit → Type 0 };
 
     /// It is this bit, made from no address.
-    ghost sure: { Bool → Self.Bit → Type 0 };
+    ghost sure: { Bool → Bit → Type 0 };
+
+    /// They are the same, but for what no step looks at.
+    ghost alike: { Bit → Bit → Type 0 };
 
     /// In an element of so many bits the cell allows these.
-    ghost allows: { ℕ → C → List Self.Bit → Type 0 };
+    ghost allows: { World → ℕ → C → List Bit → Type 0 };
 
     /// A load of these gives what the cell holds, or finds a flag that it has.
-    ghost gives: { ℕ → C → List Self.Bit → Type 0 };
+    ghost gives: { World → ℕ → C → List Bit → Type 0 };
 
-    ghost meaning_laws: { MeaningLaws C.ops C.fine tint bare sure allows };
+    ghost meaning_laws: { (w : World) → MeaningLaws C.ops C.fine tint bare sure (allows w) };
 
-    ghost access_laws: { AccessLaws C.ops C.fine allows gives };
+    ghost access_laws: { (w : World) → AccessLaws C.ops C.fine (allows w) (gives w) };
 }

@@ -31,8 +31,8 @@ pub fn inclusion_is_transitive<C: Cells>()
 
 /// A map that includes another describes what that one describes.
 pub fn inclusion_is_sound<C: Cells, M: Concrete<C>>()
-    ensures { (a b : List (Element C)) (ks : List M.Bit) → AllFine C.fine a → AllFine C.fine b → width a ≡ width b →
-        included C.ops a b ≡ true → Describes M.allows a ks → Describes M.allows b ks }
+    ensures { (world : M.World) (a b : List (Element C)) (ks : List M.Bit) → AllFine C.fine a → AllFine C.fine b → width a ≡ width b →
+        included C.ops a b ≡ true → Describes (M.allows world) a ks → Describes (M.allows world) b ks }
 {}
 
 /// The join of two maps, or their widening, includes the first, and is as long.
@@ -78,35 +78,35 @@ pub fn paste_keeps_rest<C: Cells>()
 
 /// A copy describes the bits of its place.
 pub fn copy_describes<C: Cells, M: Concrete<C>>()
-    ensures { (m : List (Element C)) (at n : ℕ) (ks : List M.Bit) → AllFine C.fine m → Describes M.allows m ks →
-        Describes M.allows (copied C.ops m at n) (take n (drop at ks)) }
+    ensures { (world : M.World) (m : List (Element C)) (at n : ℕ) (ks : List M.Bit) → AllFine C.fine m → Describes (M.allows world) m ks →
+        Describes (M.allows world) (copied C.ops m at n) (take n (drop at ks)) }
 {}
 
 /// After a store the written bits may be what the cell allows, and the others are as they were.
 pub fn store_describes<C: Cells, M: Concrete<C>>()
-    ensures { (m : List (Element C)) (at k : ℕ) (c : C) (ks cs : List M.Bit) → IsSize k → AllFine C.fine m →
-        at + k ≤ width m → length ks ≡ width m → Describes M.allows m ks → M.allows k c cs →
-        Describes M.allows (stored C.ops m at k c) (take at ks ++ (cs ++ drop (at + k) ks)) }
+    ensures { (world : M.World) (m : List (Element C)) (at k : ℕ) (c : C) (ks cs : List M.Bit) → IsSize k → AllFine C.fine m →
+        at + k ≤ width m → length ks ≡ width m → Describes (M.allows world) m ks → M.allows world k c cs →
+        Describes (M.allows world) (stored C.ops m at k c) (take at ks ++ (cs ++ drop (at + k) ks)) }
 {}
 
 /// A load gives the content of each described list of bits at each offset.
 pub fn load_gives<C: Cells, M: Concrete<C>>()
-    ensures { (m : List (Element C)) (ats : List ℕ) (at k : ℕ) (ks : List M.Bit) → IsSize k → AllFine C.fine m →
-        AllWithin k (width m) ats → length ks ≡ width m → Describes M.allows m ks → IsAmong ats at →
-        M.gives k (loaded_all C.ops m ats k) (take k (drop at ks)) }
+    ensures { (world : M.World) (m : List (Element C)) (ats : List ℕ) (at k : ℕ) (ks : List M.Bit) → IsSize k → AllFine C.fine m →
+        AllWithin k (width m) ats → length ks ≡ width m → Describes (M.allows world) m ks → IsAmong ats at →
+        M.gives world k (loaded_all C.ops m ats k) (take k (drop at ks)) }
 {}
 
 /// After a weak store the old content is possible.
 pub fn weak_store_keeps_old<C: Cells, M: Concrete<C>>()
-    ensures { (m : List (Element C)) (ats : List ℕ) (k : ℕ) (c : C) (ks : List M.Bit) → IsSize k → AllFine C.fine m →
-        AllWithin k (width m) ats → Describes M.allows m ks → Describes M.allows (weakened C.ops m ats k c) ks }
+    ensures { (world : M.World) (m : List (Element C)) (ats : List ℕ) (k : ℕ) (c : C) (ks : List M.Bit) → IsSize k → AllFine C.fine m →
+        AllWithin k (width m) ats → Describes (M.allows world) m ks → Describes (M.allows world) (weakened C.ops m ats k c) ks }
 {}
 
 /// And the new content at each of the offsets.
 pub fn weak_store_has_new<C: Cells, M: Concrete<C>>()
-    ensures { (m : List (Element C)) (ats : List ℕ) (k : ℕ) (c : C) (ks cs : List M.Bit) (at : ℕ) → IsSize k →
-        AllFine C.fine m → AllWithin k (width m) ats → length ks ≡ width m → Describes M.allows m ks → M.allows k c cs →
-        IsAmong ats at → Describes M.allows (weakened C.ops m ats k c) (take at ks ++ (cs ++ drop (at + k) ks)) }
+    ensures { (world : M.World) (m : List (Element C)) (ats : List ℕ) (k : ℕ) (c : C) (ks cs : List M.Bit) (at : ℕ) → IsSize k →
+        AllFine C.fine m → AllWithin k (width m) ats → length ks ≡ width m → Describes (M.allows world) m ks → M.allows world k c cs →
+        IsAmong ats at → Describes (M.allows world) (weakened C.ops m ats k c) (take at ks ++ (cs ++ drop (at + k) ks)) }
 {}
 
 /// Where both maps have one element at the same bits, so has their join or widening: with the cell that is made of the two.
@@ -124,37 +124,37 @@ pub fn join_of_cells<C: Cells>()
 
 /// All contents of a map whose elements are each single are alike.
 pub fn single_maps_have_one_content<C: Cells, M: Concrete<C>>()
-    ensures { (single : ℕ → C → Bool) (alike : M.Bit → M.Bit → Bool) (m : List (Element C)) (js ks : List M.Bit) →
-        SingleLaws C.fine M.allows alike single → AllFine C.fine m → all_single single m ≡ true →
-        Describes M.allows m js → Describes M.allows m ks → AllAlike alike js ks }
+    ensures { (world : M.World) (single : ℕ → C → Bool) (m : List (Element C)) (js ks : List M.Bit) →
+        SingleLaws C.fine (M.allows world) M.alike single → AllFine C.fine m → all_single single m ≡ true →
+        Describes (M.allows world) m js → Describes (M.allows world) m ks → AllAlike M.alike js ks }
 {}
 
 /// And a map whose contents are all alike is one of these.
 pub fn one_content_is_single<C: Cells, M: Concrete<C>>()
-    ensures { (single : ℕ → C → Bool) (alike : M.Bit → M.Bit → Bool) (m : List (Element C)) → SingleLaws C.fine M.allows alike single →
-        AllFine C.fine m → ((js ks : List M.Bit) → Describes M.allows m js → Describes M.allows m ks → AllAlike alike js ks) →
+    ensures { (world : M.World) (single : ℕ → C → Bool) (m : List (Element C)) → SingleLaws C.fine (M.allows world) M.alike single →
+        AllFine C.fine m → ((js ks : List M.Bit) → Describes (M.allows world) m js → Describes (M.allows world) m ks → AllAlike M.alike js ks) →
         all_single single m ≡ true }
 {}
 
 /// When an object has died, a map describes what has become of each bit.
 pub fn death_describes<C: Cells, M: Concrete<C>>()
-    ensures { (wither : M.Bit → M.Bit) (left : C → C) (m : List (Element C)) (ks : List M.Bit) → LeftLaws C.ops C.fine left →
-        DeathLaws C.fine M.allows wither left → AllFine C.fine m → Describes M.allows m ks →
-        Describes M.allows (left_all C.ops left m) (map wither ks) }
+    ensures { (world : M.World) (wither : M.Bit → M.Bit) (left : C → C) (m : List (Element C)) (ks : List M.Bit) → LeftLaws C.ops C.fine left →
+        DeathLaws C.fine (M.allows world) wither left → AllFine C.fine m → Describes (M.allows world) m ks →
+        Describes (M.allows world) (left_all C.ops left m) (map wither ks) }
 {}
 
 /// After a weak store to slots each of them may be as it was or as the cell allows, and the other bits are as they were.
 pub fn slots_describe<C: Cells, M: Concrete<C>>()
-    ensures { (m : List (Element C)) (at k gap n : ℕ) (c : C) (ks js : List M.Bit) → IsSize k → AllFine C.fine m →
-        Describes M.allows m ks → length ks ≡ width m → length js ≡ width m → at + n * (k + gap) + k ≤ width m →
-        take at js ≡ take at ks → AllMayBeStored M.allows k gap c ks js n at →
-        Describes M.allows (slots_weakened C.ops m at k gap n (put C.ops k c)) js }
+    ensures { (world : M.World) (m : List (Element C)) (at k gap n : ℕ) (c : C) (ks js : List M.Bit) → IsSize k → AllFine C.fine m →
+        Describes (M.allows world) m ks → length ks ≡ width m → length js ≡ width m → at + n * (k + gap) + k ≤ width m →
+        take at js ≡ take at ks → AllMayBeStored (M.allows world) k gap c ks js n at →
+        Describes (M.allows world) (slots_weakened C.ops m at k gap n (put C.ops k c)) js }
 {}
 
 /// A cell of offsets at which all parts are found gives the content at each of the steps.
 pub fn steps_give<C: Cells, M: Concrete<C>>()
-    ensures { (m : List (Element C)) (k at step count i : ℕ) (offsets : List ℕ) (ks : List M.Bit) → IsSize k → AllFine C.fine m →
-        at + i * step + k ≤ width m → length ks ≡ width m → Describes M.allows m ks →
+    ensures { (world : M.World) (m : List (Element C)) (k at step count i : ℕ) (offsets : List ℕ) (ks : List M.Bit) → IsSize k → AllFine C.fine m →
+        at + i * step + k ≤ width m → length ks ≡ width m → Describes (M.allows world) m ks →
         Represent C.ops m k at step count offsets → i < count →
-        M.gives k (loaded_all C.ops m offsets k) (take k (drop (at + i * step) ks)) }
+        M.gives world k (loaded_all C.ops m offsets k) (take k (drop (at + i * step) ks)) }
 {}

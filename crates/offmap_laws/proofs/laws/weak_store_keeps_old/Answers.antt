@@ -2,4 +2,4 @@ use Rattle.cell_laws.proofs.Accesses.{weakened_old}
 use Rattle.offmap_laws.proofs.laws.weak_store_keeps_old.Goals as goal
 
 pub returns : goal.returns
-returns g c = λ m ats k x ks s f a d. weakened_old g.C.Cells.ops g.C.Cells.fine g.M.Concrete.tint g.M.Concrete.bare g.M.Concrete.sure g.M.Concrete.allows g.M.Concrete.gives g.met.C.Cells.fine_laws g.met.C.Cells.order_laws g.met.C.Cells.join_laws g.met.M.Concrete.meaning_laws g.met.C.Cells.part_laws g.met.M.Concrete.access_laws m ats k x ks s f a d
+returns g c = λ world m ats k x ks s f a d. weakened_old g.C.Cells.ops g.C.Cells.fine g.M.Concrete.tint g.M.Concrete.bare g.M.Concrete.sure (g.M.Concrete.allows world) (g.M.Concrete.gives world) g.met.C.Cells.fine_laws g.met.C.Cells.order_laws g.met.C.Cells.join_laws (g.met.M.Concrete.meaning_laws world) g.met.C.Cells.part_laws (g.met.M.Concrete.access_laws world) m ats k x ks s f a d
