@@ -37,14 +37,16 @@ module _ {K : Type 0} (Alike : K → K → Type 0) where
   alike_rest [] ds es a = a
   alike_rest (i ∷ is) ds es a = alike_rest is ds es a.1
 
-module _ {C K : Type 0} (Fine : ℕ → C → Type 0) (Allows : ℕ → C → List K → Type 0) (Alike : K → K → Type 0) (single : ℕ → C → Bool) (l : SingleLaws Fine Allows Alike single) where
+module _ {C K : Type 0} (Fine : ℕ → C → Type 0) (Allows : ℕ → C → List K → Type 0) (Alike : K → K → Type 0) (single : ℕ → C → Bool)
+    (one : (k : ℕ) (c : C) (js ks : List K) → Fine k c → single k c ≡ true → Allows k c js → Allows k c ks → AllAlike Alike js ks) where
   pub single_describes : (m : List (Element C)) (js ks : List K) → AllFine Fine m → all_single single m ≡ true → Describes Allows m js → Describes Allows m ks → AllAlike Alike js ks
   unfolding all_single
   single_describes [] js ks f h a b = subst (λ (x : List K). AllAlike Alike x ks) (sym a) (subst (AllAlike Alike []) (sym b) tt)
   single_describes (e ∷ es) js ks f h a b =
       let p = and_parts (single e.bits e.cell) (list_all (λ (x : Element C). single x.bits x.cell) es) h in
-      alike_both Alike e.bits js ks (l.single_one e.bits e.cell (take e.bits js) (take e.bits ks) f.0 p.0 a.0 b.0) (single_describes es (drop e.bits js) (drop e.bits ks) f.1 p.1 a.1 b.1)
+      alike_both Alike e.bits js ks (one e.bits e.cell (take e.bits js) (take e.bits ks) f.0 p.0 a.0 b.0) (single_describes es (drop e.bits js) (drop e.bits ks) f.1 p.1 a.1 b.1)
 
+module _ {C K : Type 0} (Fine : ℕ → C → Type 0) (Allows : ℕ → C → List K → Type 0) (Alike : K → K → Type 0) (single : ℕ → C → Bool) (l : SingleLaws Fine Allows Alike single) where
   -- an element's content, and the others'
   joined_content : (e : Element C) (es : List (Element C)) (js ks : List K) → Allows e.bits e.cell js → Describes Allows es ks → Describes Allows (e ∷ es) (js ++ ks)
   joined_content e es js ks a d =

@@ -21,6 +21,12 @@ pub trait Concrete<C: Cells> {
     /// It is this bit, made from no address.
     ghost sure: { Bool → Bit → Type 0 };
 
+    /// It was made from an address.
+    ghost bound: { Bit → Type 0 };
+
+    /// A load of the first bits gives what a load of the second does.
+    ghost reads: { List Bit → List Bit → Type 0 };
+
     /// They are the same, but for what no step looks at.
     ghost alike: { Bit → Bit → Type 0 };
 

@@ -1,0 +1,4 @@
+pub mod Closing
+pub mod Showing
+pub mod Keeping
+pub mod Reading
