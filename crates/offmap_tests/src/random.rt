@@ -204,7 +204,7 @@ fn changes(alloc: Global, count: u64) -> Mem<bool> {
         if !load(alloc, &mut random, &first)? {
             return Ok(false);
         }
-        if random.draw(100) == 0 {
+        if random.draw(10) == 0 {
             if !join(alloc, &mut random, &first, &second)? {
                 return Ok(false);
             }
@@ -216,5 +216,5 @@ fn changes(alloc: Global, count: u64) -> Mem<bool> {
 
 #[test]
 fn random_changes_are_those_of_the_bits(rt: HostRuntime) {
-    assert!(rt; changes(rt.alloc(), 5_000) == Ok(true));
+    assert!(rt; changes(rt.alloc(), 100_000) == Ok(true));
 }
