@@ -1,0 +1,5 @@
+pub mod Rests
+pub mod Contents
+pub mod Singles
+pub mod Worlds
+pub mod Deaths

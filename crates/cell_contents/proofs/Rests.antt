@@ -1,0 +1,71 @@
+-- Sets whose numbers leave the same modulo a power of two.
+use Rattle.std.proofs.Common.{◌≡◌, ◌⊎◌, ℕ, zero, suc, ◌+◌, ◌*◌, ◌^◌, ◌<◌, ◌≤◌, Bool, true, false, ℤ, pos, ◌+ℤ◌, List, [], ◌∷◌, refl, sym, ap, ◌∙◌, subst, arith, inl, inr}
+use Rattle.std.specs.Prelude.{◌*ℤ◌, neg_ℤ, unsigned_abs, Option, None, Some}
+use Rattle.std.proofs.lemmas.Int.{ints}
+use Rattle.std.proofs.lemmas.Nat.{pow_pos}
+use Rattle.std.proofs.Math.Nat.{pow-le-pow_right}
+use lib.IntN.{*ℤ_comm}
+use Rattle.c_base.proofs.Products.{add-mul, mul-neg}
+use Rattle.c_base.specs.Integers.{residue}
+use Rattle.c_base.proofs.Residues.{residue_below, residue_differs, Same, residue_same}
+use Rattle.ival_core.specs.declared.value.Shape.{Shape}
+use Rattle.ival_core.specs.declared.value.Ival.{Ival}
+use Rattle.ival_core.specs.Sets.{Has, HoldsNine}
+use Rattle.ival_core.specs.Ivals.{Holds}
+use Rattle.ival_core.specs.Views.{single_of}
+use Rattle.ival_arith.specs.Values.{residues}
+use Rattle.ival_arith.proofs.Parts.{Image}
+use Rattle.ival_arith.proofs.Fits.{Fits}
+use Rattle.ival_arith.proofs.Singling.{fits_single}
+use Rattle.ival_arith.proofs.Reducing.{residues-fits}
+use Rattle.avalue_base.proofs.Sets.{single_only}
+use Rattle.cell_contents.specs.Contents.{amount, rest_in}
+
+small : (k : ℕ) → k ≤ 64 → 2 ^ k ≤ 2 ^ 64
+small k h = pow-le-pow_right (omega arith) h
+
+-- a number of the set leaves the rest
+pub rest_held : (k : ℕ) (v : Ival) (r : ℕ) (n : ℤ) → k ≤ 64 → rest_in k v.shape ≡ Some r → Holds v n → residue (2 ^ k) n ≡ r
+rest_held k v r n h e a = at (single_of (residues (2 ^ k) v.shape)) refl e
+  where
+    fits : Fits (Image (Has v.shape) (λ m. pos (residue (2 ^ k) m))) (residues (2 ^ k) v.shape)
+    fits = residues-fits (2 ^ k) v.shape (pow_pos k) (small k h) v.valid
+
+    set : Ival
+    set = record { shape = residues (2 ^ k) v.shape; valid = fits.valid }
+
+    at : (o : Option ℤ) → single_of (residues (2 ^ k) v.shape) ≡ o → amount o ≡ Some r → residue (2 ^ k) n ≡ r
+    at None s e = cc
+    at (Some z) s e =
+        let held = fits.holds (pos (residue (2 ^ k) n)) (record { from = n; has = a; is = refl }) in
+        let is : pos (residue (2 ^ k) n) ≡ z = (single_only set z s (pos (residue (2 ^ k) n))).0 held in
+        let same : unsigned_abs z ≡ r = cc in
+        ap unsigned_abs is ∙ same
+
+-- and if all leave what one leaves, that is the rest
+pub held_rest : (k : ℕ) (v : Ival) (n : ℤ) → k ≤ 64 → Holds v n → ((m : ℤ) → Holds v m → residue (2 ^ k) m ≡ residue (2 ^ k) n) → rest_in k v.shape ≡ Some (residue (2 ^ k) n)
+held_rest k v n h a f =
+    let t = residues-fits (2 ^ k) v.shape (pow_pos k) (small k h) v.valid in
+    let s = fits_single (Image (Has v.shape) (λ m. pos (residue (2 ^ k) m))) (residues (2 ^ k) v.shape) (pos (residue (2 ^ k) n)) t (record { from = n; has = a; is = refl }) (λ m i. i.is ∙ ap pos (f i.from i.has)) in
+    ap (λ (z : Shape). amount (single_of z)) s
+
+neg_mul : (u k : ℤ) → neg_ℤ u *ℤ k ≡ neg_ℤ (u *ℤ k)
+neg_mul u k = *ℤ_comm (neg_ℤ u) k ∙ mul-neg k u ∙ ap neg_ℤ (*ℤ_comm k u)
+
+-- a number added to two that leave the same
+pub rest_plus : (m : ℕ) (a x y : ℤ) → 0 < m → residue m x ≡ residue m y → residue m (a +ℤ x) ≡ residue m (a +ℤ y)
+rest_plus m a x y h e =
+    let d = residue_differs m x h in
+    let f = residue_differs m y h in
+    residue_same m (a +ℤ x) (a +ℤ y) h (record { times = d.times +ℤ neg_ℤ f.times; is = by_sums a x y (residue m x) (residue m y) d.times f.times (pos m) d.is f.is e })
+  where
+    by_sums : (a x y : ℤ) (r s : ℕ) (t u k : ℤ) → x ≡ pos r +ℤ t *ℤ k → y ≡ pos s +ℤ u *ℤ k → r ≡ s → a +ℤ x ≡ (a +ℤ y) +ℤ (t +ℤ neg_ℤ u) *ℤ k
+    by_sums a x y r s t u k d f e = rw (add-mul t (neg_ℤ u) k, neg_mul u k) (omega (arith, ints, d, f, e))
+
+pub rest_minus : (m : ℕ) (a x y : ℤ) → 0 < m → residue m (a +ℤ x) ≡ residue m (a +ℤ y) → residue m x ≡ residue m y
+rest_minus m a x y h e =
+    let p = rest_plus m (neg_ℤ a) (a +ℤ x) (a +ℤ y) h e in
+    ap (residue m) (back a x) ∙ p ∙ ap (residue m) (sym (back a y))
+  where
+    back : (a x : ℤ) → x ≡ neg_ℤ a +ℤ (a +ℤ x)
+    back a x = omega (arith, ints)
