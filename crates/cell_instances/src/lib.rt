@@ -1,0 +1,11 @@
+//! Cells of values as the laws of maps ask for them: their meaning in each layout, which of them have one content, and what is left of them
+//! when a base has died.
+#![tactic(auto)]
+
+pub mod deaths;
+pub mod meaning;
+pub mod singles;
+
+pub use deaths::DeathOf;
+pub use meaning::InLayouts;
+pub use singles::OneContent;
