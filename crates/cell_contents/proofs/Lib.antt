@@ -3,3 +3,4 @@ pub mod Contents
 pub mod Singles
 pub mod Worlds
 pub mod Deaths
+pub mod Soles

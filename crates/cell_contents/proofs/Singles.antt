@@ -61,7 +61,7 @@ all_died c g (Dead ∷ xs) a = (tt, all_died c g xs a.1)
 all_died c g (Uninit ∷ xs) a = absurd (g a.0)
 all_died c g (Bit b p i ∷ xs) a = absurd a.0
 
-flags_alike : (c : RowCell) (k : ℕ) → is_one_flag c.uninit c.dead ≡ true → (xs ys : List Cell) → length xs ≡ k → length ys ≡ k → AllByRecursion (IsFlagged c) xs → AllByRecursion (IsFlagged c) ys → AllAlike SameCell xs ys
+pub flags_alike : (c : RowCell) (k : ℕ) → is_one_flag c.uninit c.dead ≡ true → (xs ys : List Cell) → length xs ≡ k → length ys ≡ k → AllByRecursion (IsFlagged c) xs → AllByRecursion (IsFlagged c) ys → AllAlike SameCell xs ys
 flags_alike c k h xs ys v w a b =
     elim (or_cases (c.uninit && not c.dead) (not c.uninit && c.dead) h) [
       | inl u ↦
