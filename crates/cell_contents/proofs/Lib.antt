@@ -4,3 +4,4 @@ pub mod Singles
 pub mod Worlds
 pub mod Deaths
 pub mod Soles
+pub mod Reading

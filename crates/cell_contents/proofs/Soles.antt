@@ -120,7 +120,7 @@ flag_cells l k c ks i a =
 flagless : (l : Layout) (k : ℕ) (c : Cellv) (ks : List Cell) → has_no_value c.value ≡ false → Allows l k c ks → AllowsSome l (row_cell c) ks (parts_of c.value)
 flagless l k c ks h a = elim (by_value l c ks a.1) [ inl p ↦ absurd (no_true (has_no_value c.value) h p.0) | inr p ↦ p.1 ]
 
-not_none : (v : Ival) (n : ℤ) → single_of v.shape ≡ Some n → has_no_value (Separate v []) ≡ false
+pub not_none : (v : Ival) (n : ℤ) → single_of v.shape ≡ Some n → has_no_value (Separate v []) ≡ false
 not_none v n e = at (has_no_value (Separate v [])) refl
   where
     at : (b : Bool) → has_no_value (Separate v []) ≡ b → b ≡ false
@@ -327,11 +327,11 @@ same_value (Separate ns xs) (Separate ms ys) e f =
 same_value (Separate ns xs) (Mixed bs) e f = cc
 same_value (Mixed bs) w e f = cc
 
-by_parts : (x y : Cellv) → x.value ≡ y.value → x.uninit ≡ y.uninit → x.dead ≡ y.dead → x ≡ y
+pub by_parts : (x y : Cellv) → x.value ≡ y.value → x.uninit ≡ y.uninit → x.dead ≡ y.dead → x ≡ y
 by_parts x y e f g =
     ap (λ v. record { value = v; uninit = x.uninit; dead = x.dead }) e ∙ ap (λ u. record { value = y.value; uninit = u; dead = x.dead }) f ∙ ap (λ d. record { value = y.value; uninit = y.uninit; dead = d }) g
 
-is_false : (b : Bool) → (b ≡ true → ⊥) → b ≡ false
+pub is_false : (b : Bool) → (b ≡ true → ⊥) → b ≡ false
 is_false true f = absurd (f refl)
 is_false false f = refl
 
