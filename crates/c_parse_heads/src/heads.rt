@@ -8,9 +8,8 @@ ghost use Rattle.grammar.specs.Forms.{Here, Group, Key, Mark, Part};
 ghost use Rattle.c_grammar.specs.Table.{for_first, optional_before, parenthesised};
 ghost use Rattle.c_unit_tree.specs.Views.{expr_value, first_kids, optional_value};
 ghost use Rattle.c_parse_initialisers.specs.Reads.{Shortens};
-ghost use Rattle.c_parse_simple.specs.Ahead.{ReadsAhead, ending_trees, later_trees, steps_trees};
+ghost use Rattle.c_parse_heads.specs.Ahead.{ReadsAhead, ending_trees, later_trees, steps_trees};
 
-use crate::picking::on_declaration;
 use c_base::number::Span;
 use c_base::token::{Keyword, Punctuator, Token};
 use c_parse_base::expecting::expect_punctuator;
@@ -18,6 +17,7 @@ use c_parse_base::names::TypeNames;
 use c_parse_base::words::behind_keyword;
 use c_parse_decl::declarations::declaration_at;
 use c_parse_initialisers::parts::{expr_at, on_punctuator, place_at};
+use c_parse_simple::picking::on_declaration;
 use c_tree::tree::Expr;
 use c_unit_tree::declaration::Declaration;
 use c_unit_tree::statement::First;

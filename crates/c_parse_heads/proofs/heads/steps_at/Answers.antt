@@ -6,8 +6,8 @@ use Rattle.grammar.specs.Reading.{with_kid}
 use Rattle.c_grammar.specs.Leaves.{C}
 use Rattle.c_grammar.specs.Table.{for_first, optional_before}
 use Rattle.c_unit_tree.specs.Views.{first_kids}
-use Rattle.c_parse_simple.proofs.Steps.{headed}
-use Rattle.c_parse_simple.proofs.heads.steps_at.Goals as goal
+use Rattle.c_parse_heads.proofs.Steps.{headed}
+use Rattle.c_parse_heads.proofs.heads.steps_at.Goals as goal
 
 abbrev later : Form C → Form C
 later more = optional_before mark.Semicolon (optional_before mark.CloseParenthesis more)

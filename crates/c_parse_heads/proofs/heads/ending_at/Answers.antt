@@ -6,8 +6,8 @@ use Rattle.grammar.specs.Reading.{with_kid}
 use Rattle.c_grammar.specs.Leaves.{C}
 use Rattle.c_grammar.specs.Table.{parenthesised}
 use Rattle.c_unit_tree.specs.Views.{expr_value}
-use Rattle.c_parse_simple.proofs.Steps.{marked, placed, unmarked}
-use Rattle.c_parse_simple.proofs.heads.ending_at.Goals as goal
+use Rattle.c_parse_heads.proofs.Steps.{marked, placed, unmarked}
+use Rattle.c_parse_heads.proofs.heads.ending_at.Goals as goal
 
 pub returns-in-None-clause-found : goal.returns-in-None-clause-found
 returns-in-None-clause-found c = λ more.

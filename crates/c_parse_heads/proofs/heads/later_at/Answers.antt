@@ -4,7 +4,7 @@ use Rattle.grammar.specs.Reading.{with_kid}
 use Rattle.c_grammar.specs.Leaves.{C}
 use Rattle.c_grammar.specs.Table.{optional_before}
 use Rattle.c_unit_tree.specs.Views.{optional_value}
-use Rattle.c_parse_simple.proofs.heads.later_at.Goals as goal
+use Rattle.c_parse_heads.proofs.heads.later_at.Goals as goal
 
 pub returns-in-None-clause-found : goal.returns-in-None-clause-found
 returns-in-None-clause-found c = λ more. (rw c.in-None.is at c.in_ok-optional_at.ensures.found) (optional_before mark.CloseParenthesis more)

@@ -9,8 +9,8 @@ use Rattle.grammar.specs.Reading.{Ran, with_kid}
 use Rattle.c_grammar.specs.Leaves.{C}
 use Rattle.c_unit_tree.specs.Views.{expr_value, first_kids, optional_value}
 use Rattle.c_parse_initialisers.specs.Reads.{at}
-use Rattle.c_parse_simple.specs.declared.heads.Ending.{Ending}
-use Rattle.c_parse_simple.specs.declared.heads.Steps.{Steps}
+use Rattle.c_parse_heads.specs.declared.heads.Ending.{Ending}
+use Rattle.c_parse_heads.specs.declared.heads.Steps.{Steps}
 
 -- some trees before others
 abbrev pub with_kids : List (Tree C) → Option (Ran C) → Option (Ran C)

@@ -1,8 +1,8 @@
 use Rattle.std.proofs.Common.{rules}
 use Rattle.grammar.specs.Forms.{Done}
 use Rattle.c_unit_tree.specs.Views.{optional_value}
-use Rattle.c_parse_simple.proofs.Steps.{first_none, first_some}
-use Rattle.c_parse_simple.proofs.heads.first_at.Goals as goal
+use Rattle.c_parse_heads.proofs.Steps.{first_none, first_some}
+use Rattle.c_parse_heads.proofs.heads.first_at.Goals as goal
 
 pub returns-in-None-2-clause-found : goal.returns-in-None-2-clause-found
 returns-in-None-2-clause-found c = λ more.
