@@ -26,7 +26,7 @@ use Rattle.avalue_base.specs.Values.{Address, AVal, Separate, Mixed, bases_of}
 use Rattle.avalue_base.specs.Hues.{pointer_bits}
 use Rattle.avalue_base.specs.Meaning.{MeansAddress, MeansSome, Means}
 use Rattle.avalue_base.proofs.Means.{means_among, among_means}
-use Rattle.avalue.specs.Views.{numbers_in, numbers_alone, renumbered}
+use Rattle.avalue_values.specs.Views.{numbers_in, numbers_alone, renumbered}
 use Rattle.aops.specs.Converted.{wrapped_set, truths, as_pointers, is_word, as_integers, as_truths}
 use Rattle.ival_plain.proofs.Least.{least_holds}
 use Rattle.avalue_base.specs.Meets.{least_of}

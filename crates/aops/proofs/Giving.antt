@@ -30,7 +30,7 @@ use Rattle.avalue_base.specs.Meaning.{Means}
 use Rattle.avalue_base.specs.Order.{value_in}
 use Rattle.avalue_base.proofs.Lists.{among-refl, among-has, union_left, union_right}
 use Rattle.avalue_base.proofs.Means.{value_means}
-use Rattle.avalue.specs.Views.{numbers_alone}
+use Rattle.avalue_values.specs.Views.{numbers_alone}
 use Rattle.aops.specs.Promises.{GivesOne}
 use Rattle.aops.specs.Numbers.{truth_set, integer_set, integer_kinds}
 use Rattle.aops.specs.Integers.{possible_kinds, blended, integer_value, integer_value_kinds, AreOperands, Cause}

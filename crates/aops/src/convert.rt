@@ -11,7 +11,7 @@ ghost use Rattle.avalue_base.specs.Hues.{pointer_bits};
 ghost use Rattle.aops.specs.Converted.{as_integers, as_pointers, as_truths, converted_value, is_word, truths, wrapped_set};
 
 use crate::numbers::related;
-use avalue::{AVal, Mem};
+use avalue_values::{AVal, Mem};
 use c_base::format::{Format, format_of};
 use c_base::integer::{IntKind, Machine};
 use c_base::operators::Rel;

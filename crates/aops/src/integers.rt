@@ -13,7 +13,7 @@ ghost use Rattle.avalue_base.specs.Meaning.{Means};
 ghost use Rattle.aops.specs.Integers.{AreOperands, Cause, blended, integer_value, integer_value_kinds, possible_kinds};
 
 use crate::numbers::{on_numbers, truth_set};
-use avalue::{AVal, Mem};
+use avalue_values::{AVal, Mem};
 use c_base::format::format_of;
 use c_base::integer::{IntKind, Machine};
 use c_base::kind::{Kind, KindSet};

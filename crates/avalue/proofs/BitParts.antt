@@ -1,16 +1,13 @@
 -- What the parts of a value tell of its bits.
-use Rattle.std.proofs.Common.{◌≡◌, ℕ, ◌+◌, ◌≤◌, min, Bool, true, false, List, [], ◌∷◌, map, refl, sym, subst, ap, ◌∙◌, arith}
-use Rattle.std.specs.Prelude.{Option, None, Some}
+use Rattle.std.proofs.Common.{◌≡◌, ℕ, Bool, true, List, [], ◌∷◌, map, refl, sym, subst, ap, ◌∙◌}
+use Rattle.std.specs.Prelude.{None, Some}
 use Rattle.ival_core.specs.declared.value.Ival.{Ival}
-use Rattle.ival_core.proofs.Canonical.{same_ival}
-use Rattle.ival_bits.specs.Parts.{extracted}
 use Rattle.avalue_base.specs.Lists.{has_base, all_among, In, AreAscending}
-use Rattle.avalue_base.specs.Numbers.{part_of}
 use Rattle.avalue_base.specs.Values.{Address, AVal, Separate, Mixed, base_of, bases_of}
 use Rattle.avalue_base.proofs.Lists.{In-all, all-In, In-map, map-In, In-has, has-In}
-use Rattle.avalue.specs.Walks.{all_in}
-use Rattle.avalue.specs.Views.{numbers_in, addresses_of, members_of}
-use Rattle.avalue.proofs.Walking.{same_bool, all_in-partners, partners-all_in}
+use Rattle.sorted_lists.specs.Walks.{all_in}
+use Rattle.avalue_values.specs.Views.{numbers_in, addresses_of, members_of}
+use Rattle.sorted_lists.proofs.Walking.{same_bool, all_in-partners, partners-all_in}
 
 keys_in : {X Y : Type 0} (key : X → ℕ) (other_key : Y → ℕ) (xs : List X) (ys : List Y) → AreAscending key xs → AreAscending other_key ys → all_in key other_key (λ a b. true) xs ys ≡ all_among (map key xs) (map other_key ys)
 keys_in key other_key xs ys a b =
@@ -54,9 +51,3 @@ addresses_in_addresses (Mixed bs) w r n m xs ys e f g h a b k = cc
 addresses_in_addresses (Separate as' us) (Mixed cs) r n m xs ys e f g h a b k = cc
 addresses_in_addresses (Separate as' us) (Separate cs ws) r n m xs ys e f g h a b k =
     k ∙ keys_in base_of base_of xs ys a b ∙ ap (λ z. all_among (map base_of z) (map base_of ys)) g ∙ ap (λ z. all_among (map base_of us) (map base_of z)) h
-
-pub part_is : (low bits : ℕ) (a v : Ival) → low + bits ≤ 64 → v.shape ≡ extracted low bits a.shape → v ≡ part_of low bits a
-unfolding part_of
-part_is low bits a v h e =
-    let m : min bits 64 ≡ bits = omega arith in
-    same_ival v (part_of low bits a) (e ∙ ap (λ n. extracted low n a.shape) (sym m))

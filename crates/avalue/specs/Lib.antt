@@ -1,4 +1,3 @@
-pub mod Walks
+pub use Rattle.avalue_values.specs.Views
+pub use Rattle.avalue_values.specs.Parts
 pub mod Codes
-pub mod Views
-pub mod Parts

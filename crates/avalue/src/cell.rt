@@ -11,8 +11,7 @@ ghost use Rattle.avalue_base.specs.Pieces.{no_value};
 ghost use Rattle.avalue_base.specs.Deaths.{forgotten};
 ghost use Rattle.avalue.specs.Views.{held_value};
 
-use crate::Mem;
-use crate::value::AVal;
+use avalue_values::{AVal, Mem};
 use c_base::number::BaseId;
 use ival_core::Ival;
 use std::alloc::Global;

@@ -3,10 +3,11 @@ ghost use Rattle.std.specs.Prelude.{◌≡◌, ◌&&◌, ◌||◌, not};
 ghost use Rattle.avalue_base.specs.Values.{has_no_value};
 ghost use Rattle.avalue_base.specs.Pieces.{flagged};
 
-use crate::Mem;
+use crate::bits::{admits, bases_in, has_bits, known_bit};
 use crate::cell::{Cellv, held, implies, nothing};
-use crate::sets::number_of;
-use crate::value::AVal;
+use crate::pieces::{any_bit, fit, glue_read, piece, with_number};
+use avalue_parts::number_of;
+use avalue_values::{AVal, Mem};
 use cell_runs::cells::Cells;
 use std::alloc::Global;
 use std::marker::Model;
@@ -100,7 +101,7 @@ impl Cells for Cellv {
 
     fn is_within(&self, other: &Cellv) -> bool {
         let none = nothing();
-        if !held(&self.value, &none).bases_in(held(&other.value, &none)) {
+        if !bases_in(held(&self.value, &none), held(&other.value, &none)) {
             return false;
         }
         if !implies(self.uninit, other.uninit) {
@@ -111,7 +112,7 @@ impl Cells for Cellv {
 
     fn admits(&self, bits: u64, other: &Cellv) -> bool {
         let none = nothing();
-        if !held(&self.value, &none).admits(bits, held(&other.value, &none)) {
+        if !admits(held(&self.value, &none), bits, held(&other.value, &none)) {
             return false;
         }
         if !implies(other.uninit, self.uninit) {
@@ -128,12 +129,12 @@ impl Cells for Cellv {
             return None;
         }
         let none = nothing();
-        held(&self.value, &none).known_bit(bits, index)
+        known_bit(held(&self.value, &none), bits, index)
     }
 
     fn has(&self, bits: &[bool]) -> bool {
         let none = nothing();
-        held(&self.value, &none).has_bits(bits)
+        has_bits(held(&self.value, &none), bits)
     }
 
     fn join(&self, alloc: Global, other: &Cellv) -> Mem<Cellv> {
@@ -152,7 +153,7 @@ impl Cells for Cellv {
 
     fn with_bits(&self, alloc: Global, bits: &[bool]) -> Mem<Cellv> {
         let none = nothing();
-        let value = held(&self.value, &none).with_number(alloc, number_of(bits))?;
+        let value = with_number(alloc, held(&self.value, &none), number_of(bits))?;
         Ok(Cellv {
             value: Some(value),
             uninit: self.uninit,
@@ -162,7 +163,7 @@ impl Cells for Cellv {
 
     fn any_of(&self, alloc: Global, other: &Cellv) -> Mem<Cellv> {
         let none = nothing();
-        let value = held(&self.value, &none).any_bit(alloc, held(&other.value, &none))?;
+        let value = any_bit(alloc, held(&self.value, &none), held(&other.value, &none))?;
         Ok(Cellv {
             value: Some(value),
             uninit: self.uninit || other.uninit,
@@ -172,13 +173,13 @@ impl Cells for Cellv {
 
     fn fit(&self, alloc: Global, bits: u64) -> Mem<Cellv> {
         let none = nothing();
-        let value = held(&self.value, &none).fit(alloc, bits)?;
+        let value = fit(alloc, held(&self.value, &none), bits)?;
         Ok(flagged(value, self.uninit, self.dead))
     }
 
     fn piece(&self, alloc: Global, bits: u64, low: u64, count: u64) -> Mem<Cellv> {
         let none = nothing();
-        let value = held(&self.value, &none).piece(alloc, low as u32, count as u32)?;
+        let value = piece(alloc, held(&self.value, &none), low as u32, count as u32)?;
         Ok(Cellv {
             value: Some(value),
             uninit: self.uninit,
@@ -188,8 +189,9 @@ impl Cells for Cellv {
 
     fn glue(&self, alloc: Global, bits: u64, other: &Cellv, other_bits: u64) -> Mem<Cellv> {
         let none = nothing();
-        let value = held(&self.value, &none).glue_read(
+        let value = glue_read(
             alloc,
+            held(&self.value, &none),
             bits as u32,
             held(&other.value, &none),
             other_bits as u32,

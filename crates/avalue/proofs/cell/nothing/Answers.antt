@@ -1,4 +1,4 @@
-use Rattle.avalue.proofs.Values.{nothing_is}
+use Rattle.avalue_values.proofs.Values.{nothing_is}
 use Rattle.avalue.proofs.cell.nothing.Goals as goal
 
 pub returns : goal.returns

@@ -1,5 +1,0 @@
-use Rattle.avalue_base.proofs.Sets.{lies_same}
-use Rattle.avalue.proofs.element.is_included.Goals as goal
-
-pub returns : goal.returns
-returns c = lies_same c.args.a.now c.args.b.now c.included.result c.included.ensures

@@ -1,5 +1,0 @@
-use Rattle.avalue_base.proofs.Sets.{join_same}
-use Rattle.avalue.proofs.element.joined.Goals as goal
-
-pub returns : goal.returns
-returns c = join_same c.args.a.now c.args.b.now c.join.result c.join.ensures

@@ -1,5 +1,0 @@
-use Rattle.std.proofs.Common.{length}
-use Rattle.avalue.proofs.mix.+gather.Given as goal
-
-abbrev pub decreases-gather : goal.decreases-gather
-decreases-gather l = length l.bases.now

@@ -1,5 +1,0 @@
-use Rattle.avalue.proofs.Values.{left_answers}
-use Rattle.avalue.proofs.value.AVal.forget_base.Goals as goal
-
-pub returns-clause-meaning : goal.returns-clause-meaning
-returns-clause-meaning c = left_answers c.left_of.result c.args.base.0 c.args.self.now c.left_of.ensures

@@ -1,8 +1,0 @@
-use Rattle.std.proofs.Common.{◌∙◌}
-use Rattle.ival_core.proofs.Canonical.{same_ival}
-use Rattle.avalue_base.specs.Numbers.{words}
-use Rattle.avalue.proofs.Values.{words_shape}
-use Rattle.avalue.proofs.value.words.Goals as goal
-
-pub returns : goal.returns
-returns c = same_ival c.run_from.result words (c.run_from.ensures.value ∙ words_shape)

@@ -1,0 +1,5 @@
+pub mod Values
+pub mod Inclusion
+pub mod Mixes
+mod Same
+mod Making

@@ -1,0 +1,3 @@
+pub mod Codes
+pub mod Views
+pub mod Parts
