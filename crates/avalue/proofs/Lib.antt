@@ -1,3 +1,4 @@
 pub mod Cells
 pub mod BitParts
 mod Making
+pub mod Growing

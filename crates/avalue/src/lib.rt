@@ -8,8 +8,9 @@ mod cell;
 mod maps;
 mod pieces;
 mod row;
+mod widens;
 
-pub use avalue_parts::{Address, is_near};
+pub use avalue_parts::{Address, Sizes, is_near};
 pub use avalue_values::{AVal, Mem, Part};
 pub use cell::Cellv;
 pub use maps::Hue;

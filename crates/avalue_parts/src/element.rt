@@ -89,6 +89,8 @@ impl Compares<Address, Address> for ByOffsets {
 impl Unites<Address> for ByOffsets {
     ghost use Rattle.avalue_base.specs.Order.{both_addresses};
 
+    ghost ready = { λ r. Unit {0} };
+
     ghost united = { λ r. both_addresses };
 
     fn unite(&self, x: &Address, y: &Address) -> Address {

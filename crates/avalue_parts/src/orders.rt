@@ -30,7 +30,7 @@ pub fn is_included(a: &Ival, b: &Ival) -> bool
 }
 
 /// Offsets are near from `-NEAR` to `NEAR`.
-const NEAR: i128 = 1 << 62;
+pub const NEAR: i128 = 1 << 62;
 
 /// Whether all offsets lie from -2^62 to 2^62.
 pub fn is_near(offsets: &Ival) -> bool

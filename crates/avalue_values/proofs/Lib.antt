@@ -3,3 +3,4 @@ pub mod Inclusion
 pub mod Mixes
 mod Same
 mod Making
+pub mod Growing

@@ -9,6 +9,7 @@ mod meets;
 mod mix;
 mod part;
 mod value;
+mod widens;
 
 pub use part::Part;
 pub use sorted_lists::Mem;

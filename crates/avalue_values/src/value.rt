@@ -185,7 +185,7 @@ impl AVal {
         self.join_parts(alloc, o)
     }
 
-    fn join_parts(&self, alloc: Global, o: &AVal) -> Mem<AVal>
+    pub(crate) fn join_parts(&self, alloc: Global, o: &AVal) -> Mem<AVal>
         ensures { IfOk result (λ v. v ≡ join_values self.now o.now) }
     {
         match self.numbers() {

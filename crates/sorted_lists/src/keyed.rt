@@ -15,9 +15,13 @@ pub trait Keyed: Sized + Drop + Default {
 
 /// What one element holds of two with one key.
 pub trait Unites<X> {
+    /// When it may be asked.
+    ghost ready: { Self → Type 0 };
+
     ghost united: { Self → X → X → X };
 
     fn unite(&self, x: &X, y: &X) -> X
+        requires { ready self.now }
         ensures { result ≡ united self.now x.now y.now };
 }
 
@@ -52,6 +56,8 @@ impl<X: Keyed, Y> Picks<X, Y> for First {
 }
 
 impl<X: Keyed> Unites<X> for First {
+    ghost ready = { λ f. Unit {0} };
+
     ghost united = { λ f x y. x };
 
     fn unite(&self, x: &X, y: &X) -> X {

@@ -45,6 +45,7 @@ fn push_next<R: Unites<T>, T: Keyed, const N: usize>(
     ys: &[T],
     at: Cursors,
 ) -> Mem<Cursors>
+    requires ready { R.ready rule.now }
     requires left { at.left < length xs.now }
     requires right { at.right < length ys.now }
     ensures same { OnOk result (IfOk result (λ next.
@@ -84,6 +85,7 @@ pub fn union<R: Unites<T>, T: Keyed, const N: usize>(
     xs: &[T],
     ys: &[T],
 ) -> Mem<SmallVec<T, N>>
+    requires { R.ready rule.now }
     ensures { IfOk result (λ list. list.items ≡ merged T.key_of (R.united rule.now) xs.now ys.now) }
 {
     let mut list = SmallVec::new(alloc);
