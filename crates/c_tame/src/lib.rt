@@ -1,0 +1,2 @@
+//! Runs in which pointers stay whole and are used as pointers alone (`specs/`).
+#![tactic(auto)]
