@@ -8,11 +8,11 @@ use Rattle.c_memory.specs.Values.{Value, Uninit, value_in}
 use Rattle.c_memory.specs.Layouts.{Layout}
 use Rattle.c_memory.specs.Memories.{Memory, withered, reached, loaded, offset_in}
 use Rattle.c_program.specs.Syntax.{numbers_from}
-use Rattle.c_stepper.specs.declared.value.Cell.{Cell as CodeCell}
+use Rattle.stepper_values.specs.declared.value.Cell.{Cell as CodeCell}
 use Rattle.c_stepper.specs.declared.memory.Change.{Change}
 use Rattle.c_stepper.specs.declared.memory.Change.TheVariants.{Born, Died}
 use Rattle.c_stepper.specs.Views.{cell_of, memory_of}
-use Rattle.c_stepper.proofs.Cells.{behind, front-split, read-is}
+use Rattle.stepper_values.proofs.Cells.{behind, front-split, read-is}
 
 module _ (l : Layout) (changes : List Change) (x : Change) (bases : List ℕ) (base : ℕ) (some : (length changes == 0) ≡ false) (first : x ≡ get_or changes 0 x) where
   split : (y : Change) → x ≡ y → changes ≡ y ∷ behind changes

@@ -1,3 +1,2 @@
-pub mod Cells
 pub mod Histories
 pub mod Starting

@@ -10,10 +10,10 @@ use Rattle.c_program.proofs.Packed.{packed_layout}
 use Rattle.c_machine.specs.Machine.{first_cells, image_at, imaged, initial_memory}
 use Rattle.c_stepper.specs.declared.tree.Base.{Base as CodeBase}
 use Rattle.c_stepper.specs.declared.tree.Program.{Program as CodeProgram}
-use Rattle.c_stepper.specs.declared.layout.Object.{Object}
+use Rattle.stepper_values.specs.declared.layout.Object.{Object}
 use Rattle.c_stepper.specs.declared.memory.Change.{Change}
 use Rattle.c_stepper.specs.declared.memory.Change.TheVariants.{Written}
-use Rattle.c_stepper.specs.declared.value.Cell.{Cell as CodeCell}
+use Rattle.stepper_values.specs.declared.value.Cell.{Cell as CodeCell}
 use Rattle.c_base.specs.declared.integer.Machine.{Machine}
 use Rattle.c_base.specs.declared.integer.Machine.TheVariants.{Lp64}
 use mathlib.Core.Path.{fun_ext}

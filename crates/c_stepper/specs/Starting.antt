@@ -5,8 +5,8 @@ use Rattle.c_program.specs.Syntax.{Program, IsLayout}
 use Rattle.c_program.specs.Packing.{HasRoom}
 use Rattle.c_machine.specs.Machine.{first_cells}
 use Rattle.c_stepper.specs.declared.tree.Base.{Base}
-use Rattle.c_stepper.specs.declared.layout.Object.{Object}
-use Rattle.c_stepper.specs.declared.layout.Layout.{Layout as CodeLayout}
+use Rattle.stepper_values.specs.declared.layout.Object.{Object}
+use Rattle.stepper_values.specs.declared.layout.Layout.{Layout as CodeLayout}
 use Rattle.c_stepper.specs.declared.memory.Change.{Change}
 use Rattle.c_stepper.specs.Views.{base_of, layout_of, memory_of}
 

@@ -1,23 +1,17 @@
 -- What the stepper's data stand for.
 use Rattle.std.specs.Prelude.{ℕ, ◌≡◌, Bool, false, List, [], ◌∷◌, ℤ, pos, negsuc, Option, None, Some, Result, Ok, Err, map, length, slice_get, unwrap_or}
 use Rattle.std.specs.FinSet.{from_list}
-use Rattle.c_stepper.specs.declared.number.Number.{Number}
-use Rattle.c_stepper.specs.declared.number.Number.TheVariants.{Natural, Negative}
 use Rattle.c_stepper.specs.declared.tree.Expr.{Expr as CodeExpr}
 use Rattle.c_stepper.specs.declared.tree.Expr.TheVariants.{Number as CodeNumber, Load as CodeLoad, Binary' as CodeBinary, Assign' as CodeAssign}
 use Rattle.c_stepper.specs.declared.tree.Stmt.{Stmt as CodeStmt}
 use Rattle.c_stepper.specs.declared.tree.Stmt.TheVariants.{Expression as CodeExpression, Return as CodeReturn, If' as CodeIf, While' as CodeWhile, Block' as CodeBlock, Nothing as CodeNothing}
 use Rattle.c_stepper.specs.declared.tree.Stmts.{Stmts as CodeStmts}
 use Rattle.c_stepper.specs.declared.tree.Stmts.TheVariants.{Done as CodeDone, Next' as CodeNext}
-use Rattle.c_stepper.specs.declared.value.Value.{Value as CodeValue}
-use Rattle.c_stepper.specs.declared.value.Cell.{Cell as CodeCell}
-use Rattle.c_stepper.specs.declared.value.Cell.TheVariants.{Uninit as CodeUninit, Dead as CodeDead, Bit as CodeBit}
-use Rattle.c_stepper.specs.declared.value.Held.{Held as CodeHeld}
-use Rattle.c_stepper.specs.declared.value.Held.TheVariants.{Usable as CodeUsable, Unusable as CodeUnusable, Cells as CodeCells, Absent as CodeAbsent}
-use Rattle.c_stepper.specs.declared.layout.Object.{Object}
+use Rattle.stepper_values.specs.declared.layout.Layout.{Layout as CodeLayout}
+use Rattle.stepper_values.specs.declared.value.Cell.{Cell as CodeCell}
+pub use Rattle.stepper_values.specs.Views.{number_of, number_result_of, bases_of, value_of, value_result_of, cell_of, held_of, object_at, layout_of, truth_result_of}
 use Rattle.c_stepper.specs.declared.memory.Change.{Change}
 use Rattle.c_stepper.specs.declared.memory.Change.TheVariants.{Written, Born, Died}
-use Rattle.c_stepper.specs.declared.layout.Layout.{Layout as CodeLayout}
 use Rattle.c_stepper.specs.declared.work.Work.{Work as CodeWork}
 use Rattle.c_stepper.specs.declared.work.Work.TheVariants.{Do as CodeDo, Evaluate as CodeEvaluate, Locate as CodeLocate, Fetch as CodeFetch, Store as CodeStore, Apply as CodeApply, Discard as CodeDiscard, Choose as CodeChoose, Loop as CodeLoop, Turn as CodeTurn, Deliver as CodeDeliver, Body as CodeBody, Brace as CodeBrace, Close as CodeClose, Frame as CodeFrame}
 use Rattle.c_stepper.specs.declared.work.State.{State as CodeState}
@@ -41,15 +35,6 @@ use Rattle.c_machine.specs.Machine.{Held, Usable, Unusable, Cells, Absent, Work,
 use Rattle.c_machine.specs.Unfolding.{is_volatile}
 use Rattle.c_program.specs.Syntax.{numbers_from, Variable, Expr, Number as NumberExpr, Load, Binary, Assign, Stmt, Expression, Return, If, While, Block, Nothing, Stmts, Done, Next, ResultType, Void, Returns, Base, Function, Program}
 
-abbrev pub number_of : Number → ℤ
-number_of (Natural n) = pos n
-number_of (Negative n) = negsuc n
-
--- a number, or why there is none
-abbrev pub number_result_of : Result Number Kind → Result ℤ Kind
-number_result_of (Ok n) = Ok (number_of n)
-number_result_of (Err kind) = Err kind
-
 abbrev pub expr_of : CodeExpr → Expr
 expr_of (CodeNumber kind n) = NumberExpr kind (number_of n)
 expr_of (CodeLoad kind base) = Load kind (Variable base)
@@ -69,44 +54,9 @@ abbrev mutual
   stmts_of CodeDone = Done
   stmts_of (CodeNext p s q more) = Next (stmt_of s) (stmts_of more)
 
--- a list of bases stands for their set
-abbrev pub bases_of : List ℕ → Provenance
-bases_of bases = from_list bases
-
-abbrev pub value_of : CodeValue → Value
-value_of v = record { number = number_of v.number; provenance = bases_of v.bases }
-
-abbrev pub value_result_of : Result CodeValue Kind → Result Value Kind
-value_result_of (Ok v) = Ok (value_of v)
-value_result_of (Err kind) = Err kind
-
-abbrev pub cell_of : CodeCell → Cell
-cell_of CodeUninit = Uninit
-cell_of CodeDead = Dead
-cell_of (CodeBit bit bases piece) = Bit bit (bases_of bases) piece
-
-abbrev pub held_of : CodeHeld → Held
-held_of (CodeUsable v) = Usable (value_of v)
-held_of (CodeUnusable kind) = Unusable kind
-held_of (CodeCells cells) = Cells (map cell_of cells)
-held_of CodeAbsent = Absent
-
 abbrev pub cells_option_of : Option (List CodeCell) → Option (List Cell)
 cells_option_of None = None
 cells_option_of (Some cells) = Some (map cell_of cells)
-
--- a base that isn't listed has no bytes
-abbrev pub object_at : List Object → ℕ → Object
-object_at objects base = unwrap_or (slice_get objects base) (record { address = 0; size = 0; readonly = false })
-
-abbrev pub layout_of : CodeLayout → Layout
-layout_of l = record {
-  machine = l.machine;
-  address = λ base. (object_at l.objects base).address;
-  size = λ base. (object_at l.objects base).size;
-  readonly = λ base. (object_at l.objects base).readonly;
-  bases = numbers_from 0 (length l.objects);
-}
 
 -- the memory after a history of changes, the last change first
 abbrev pub memory_of : Layout → List Change → Memory
@@ -215,10 +165,6 @@ HasEffect l work s t effect =
 -- a part of a step that is a function of the state goes on so
 abbrev pub Leads : CodeLayout → (State → Outcome) → CodeState → CodeState → Effect → Type 0
 Leads l f s t effect = Answers (λ out. out ≡ f (state_of (layout_of l) s)) (state_of (layout_of l) t) effect
-
-abbrev pub truth_result_of : Result Value Kind → Result Bool Kind
-truth_result_of (Ok v) = Ok (truth_of v)
-truth_result_of (Err kind) = Err kind
 
 -- the same of a whole step
 abbrev pub Ends : (Outcome → Type 0) → State → CodeOutcome → Type 0

@@ -1,17 +1,13 @@
 //! A stepper that carries out the meaning of programs (`specs/Machine.antt` of c_machine), one step after the other.
 #![tactic(auto)]
 
-pub mod layout;
 pub mod memory;
-pub mod number;
 pub mod stack;
 pub mod start;
 pub mod stepper;
 pub mod tree;
-pub mod value;
 pub mod work;
 
-pub use layout::{Layout, Object};
 pub use stepper::Stepper;
 pub use tree::Program;
 pub use work::{Outcome, State};

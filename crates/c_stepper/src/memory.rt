@@ -8,14 +8,17 @@ ghost use Rattle.c_memory.specs.Values as values;
 ghost use Rattle.c_memory.specs.Memories as memories;
 ghost use Rattle.c_stepper.specs.Views.{number_of, value_of, cell_of, cells_option_of, value_result_of, layout_of, object_at, memory_of, stored_of};
 
-use crate::layout::{Layout, Object};
-use crate::number::{Number, size_of_scalar};
 use crate::stack::Stack;
-use crate::value::{Cell, Value, add_cells, cells_of, contains, is_named, value_in, withered};
 use c_base::kind::Kind;
 use c_memory::scalar::Scalar;
 use sqlite_items::Items;
 use std::alloc::{AllocError, Global};
+use stepper_values::layout::Layout;
+use stepper_values::number::size_of_scalar;
+use stepper_values::places::{first_bit, is_within, object_of};
+use stepper_values::value::{
+    Cell, Value, add_cells, back, cells_of, contains, front, is_named, value_in, withered,
+};
 
 /// What has happened to memory: the cells of a base were written, objects were born, or objects died.
 #[derive(Drop)]
@@ -27,28 +30,6 @@ pub enum Change {
 
 /// A memory as its history, the last change on top. Before the first one nothing lives.
 pub type Memory = Stack<Change>;
-
-pub(crate) fn object(layout: &Layout, base: u32) -> Object
-    ensures { result ≡ object_at layout.now.objects base }
-{
-    match layout.objects.get(base as usize) {
-        Some(found) => *found,
-        None => Object {
-            address: 0,
-            size: 0,
-            readonly: false,
-        },
-    }
-}
-
-pub(crate) fn address_of(alloc: Global, layout: &Layout, base: u32) -> Result<Value, AllocError>
-    ensures { IfOk result (λ value. value_of value ≡ memories.address_of (layout_of layout.now) base) }
-{
-    Ok(Value {
-        number: Number::Natural(object(layout, base).address),
-        bases: Items::from_slice(alloc, &[base])?,
-    })
-}
 
 fn unwritten(alloc: Global, bytes: u32) -> Result<Items<Cell>, AllocError>
     ensures { IfOk result (λ cells. map cell_of cells ≡ replicate (8 * bytes) values.Uninit) }
@@ -84,7 +65,7 @@ pub fn cells_in(
         }
         Change::Born(bases) => {
             if is_named(bases.as_slice(), base) {
-                return Ok(Some(unwritten(alloc, object(layout, base).size)?));
+                return Ok(Some(unwritten(alloc, object_of(layout, base).size)?));
             }
             cells_in(alloc, layout, &changes[1..], base)
         }
@@ -97,18 +78,6 @@ pub fn cells_in(
                 None => Ok(None),
             }
         }
-    }
-}
-
-/// An access of so many bytes at the address lies in the base.
-fn is_within(layout: &Layout, bytes: u32, base: u32, at: Number) -> bool
-    ensures { result ≡ memories.is_within (layout_of layout.now) bytes base (number_of at) }
-{
-    let whole = object(layout, base);
-    match at {
-        Number::Natural(n) => whole.address <= n
-            && (n - whole.address) as u128 + bytes as u128 <= whole.size as u128,
-        Number::Negative(_) => false,
     }
 }
 
@@ -175,38 +144,6 @@ fn reached(
         0,
         layout.objects.len() as u32,
     )
-}
-
-/// The bit of the base at which the access begins.
-fn first_bit(layout: &Layout, base: u32, at: &Value) -> u128
-    ensures value { result ≡ 8 * memories.offset_in (layout_of layout.now) base (value_of at.now) }
-    ensures small { result ≤ 2 ^ 80 }
-{
-    match at.number {
-        Number::Natural(n) => 8 * n.saturating_sub(object(layout, base).address) as u128,
-        Number::Negative(_) => 0,
-    }
-}
-
-fn front(cells: &[Cell], count: u128) -> &[Cell]
-    ensures value { result.now ≡ take count cells.now }
-    ensures short { length result.now ≤ count }
-{
-    if count < cells.len() as u128 {
-        &cells[..count as usize]
-    } else {
-        cells
-    }
-}
-
-fn back(cells: &[Cell], count: u128) -> &[Cell]
-    ensures { result.now ≡ drop count cells.now }
-{
-    if count < cells.len() as u128 {
-        &cells[count as usize..]
-    } else {
-        &[]
-    }
 }
 
 /// The cells of a base, or none if it doesn't live.
@@ -303,7 +240,7 @@ pub(crate) fn store(
     match reached(alloc, layout, memory, scalar, at)? {
         None => Ok(Some(Kind::MemAccess)),
         Some(base) => {
-            if object(layout, base).readonly {
+            if object_of(layout, base).readonly {
                 return Ok(Some(Kind::MemAccess));
             }
             write(alloc, layout, memory, scalar, base, at, value)?;

@@ -9,18 +9,18 @@ ghost use Rattle.c_machine.specs.Machine as machine;
 ghost use Rattle.c_stepper.specs.Views.{cell_of, control_of, layout_of, memory_of, state_of, state_option_of, function_of, function_option_of, program_of};
 ghost use Rattle.c_stepper.specs.Starting.{Packs, IsFirst};
 
-use crate::layout::{Layout, Object};
 use crate::memory::{Change, Memory};
 use crate::stack::Stack;
 use crate::stepper::Stepper;
 use crate::tree::{Base, Function, Program, Stmts};
-use crate::value::Cell;
 use crate::work::{State, Work, queue};
 use c_base::integer::Machine;
 use c_program::base::BaseSort;
 use sqlite_items::Items;
 use std::alloc::{AllocError, Global};
 use std::rc::Rc;
+use stepper_values::layout::{Layout, Object};
+use stepper_values::value::Cell;
 
 fn last_address(machine: Machine) -> u64
     ensures value { result ≡ layouts.last_address machine }

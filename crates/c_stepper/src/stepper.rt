@@ -5,15 +5,12 @@ ghost use Rattle.c_memory.specs.Memories as memories;
 ghost use Rattle.c_memory.specs.Operations as operations;
 ghost use Rattle.c_program.specs.Syntax.{Variable};
 ghost use Rattle.c_machine.specs.Machine as machine;
-ghost use Rattle.c_stepper.specs.Views.{bases_of, expr_of, stmt_of, stmts_of, result_of, value_of, held_of, value_result_of, truth_result_of, work_of, control_of, layout_of, memory_of, state_of, Answers, HasEffect, Leads, IsStep};
+ghost use Rattle.c_stepper.specs.Views.{expr_of, stmt_of, stmts_of, result_of, value_of, held_of, value_result_of, truth_result_of, work_of, control_of, layout_of, memory_of, state_of, Answers, HasEffect, Leads, IsStep};
 ghost use Rattle.c_stepper.specs.declared.work.Effect.TheVariants.{StopsIn};
 
-use crate::layout::Layout;
-use crate::memory::{Change, address_of, loaded, store};
-use crate::number::{Number, computed, is_comparison, is_zero};
+use crate::memory::{Change, loaded, store};
 use crate::stack::Stack;
 use crate::tree::{Expr, ResultType, Stmt, Stmts};
-use crate::value::{Held, Value, is_touched, plain, used, withered};
 use crate::work::{Effect, Outcome, State, Work, leave_frame, queue, sites_of, statement_in};
 use c_base::integer::IntKind;
 use c_base::kind::Kind;
@@ -22,6 +19,11 @@ use c_memory::scalar::Scalar;
 use sqlite_items::Items;
 use std::alloc::{AllocError, Global};
 use std::rc::Rc;
+use stepper_values::layout::Layout;
+use stepper_values::number::{Number, computed, is_zero};
+use stepper_values::operators::bases_after;
+use stepper_values::places::address_of;
+use stepper_values::value::{Held, Value, is_touched, part_value, plain, used, withered};
 
 /// Steps through programs whose objects stand where the layout says.
 #[derive(Drop)]
@@ -198,6 +200,10 @@ impl Stepper {
             }
             Held::Unusable(kind) => Ok(stop_in(&state.control, kind)),
             Held::Cells(_) | Held::Absent => Ok(stop_in(&state.control, Kind::Initialization)),
+            Held::Part(cells) => {
+                let value = part_value(self.alloc, self.layout.machine, scalar, cells.as_slice())?;
+                self.hold(state, value)
+            }
         }
     }
 
@@ -419,6 +425,7 @@ impl Stepper {
             Held::Usable(value) => self.leave(Held::Usable(value), state),
             Held::Cells(cells) => self.leave(Held::Cells(cells), state),
             Held::Absent => self.leave(Held::Absent, state),
+            Held::Part(cells) => self.leave(Held::Part(cells), state),
         }
     }
 
@@ -492,23 +499,6 @@ impl Stepper {
     }
 }
 
-/// The bases from whose addresses a result was made.
-fn bases_after(
-    alloc: Global,
-    op: BinOp,
-    mut a: Items<u32>,
-    b: Items<u32>,
-) -> Result<Items<u32>, AllocError>
-    ensures { IfOk result (λ bases. bases_of bases ≡ operations.provenance_after op (bases_of a)
-        (bases_of b)) }
-{
-    if is_comparison(op) {
-        return Ok(Items::new(alloc));
-    }
-    a.append(b)?;
-    Ok(a)
-}
-
 /// What was made from the address of an object that dies in the return can't be used behind it.
 fn handed(alloc: Global, held: Held, dying: &[u32]) -> Result<Held, AllocError>
     ensures { IfOk result (λ after. held_of after ≡ machine.handed dying.now (held_of held)) }
@@ -524,6 +514,7 @@ fn handed(alloc: Global, held: Held, dying: &[u32]) -> Result<Held, AllocError>
         Held::Unusable(kind) => Ok(Held::Unusable(kind)),
         Held::Cells(cells) => Ok(Held::Cells(withered(alloc, dying, cells.as_slice())?)),
         Held::Absent => Ok(Held::Absent),
+        Held::Part(cells) => Ok(Held::Part(cells)),
     }
 }
 

@@ -2,7 +2,6 @@
 
 ghost use Rattle.std.specs.Prelude.{◌<◌, ◌^◌, length};
 
-use crate::number::Number;
 use c_base::integer::{IntKind, Machine};
 use c_base::name::Name;
 use c_base::number::Span;
@@ -11,6 +10,7 @@ use c_memory::scalar::Scalar;
 use c_program::base::BaseSort;
 use sqlite_items::Items;
 use std::rc::Rc;
+use stepper_values::number::Number;
 
 /// An lvalue is a variable, named by its base.
 #[derive(Drop)]

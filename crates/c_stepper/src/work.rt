@@ -8,7 +8,6 @@ ghost use Rattle.c_stepper.specs.Views.{stmt_of, stmts_of, work_of, control_of, 
 use crate::memory::Memory;
 use crate::stack::Stack;
 use crate::tree::{Expr, ResultType, Stmt, Stmts};
-use crate::value::Held;
 use c_base::integer::IntKind;
 use c_base::kind::Kind;
 use c_base::operators::BinOp;
@@ -16,6 +15,7 @@ use c_memory::scalar::Scalar;
 use sqlite_items::Items;
 use std::alloc::{AllocError, Global};
 use std::rc::Rc;
+use stepper_values::value::Held;
 
 /// What is still to do.
 #[derive(Drop)]

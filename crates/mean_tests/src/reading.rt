@@ -9,11 +9,11 @@ use c_base::name::Name;
 use c_base::operators::BinOp;
 use c_memory::scalar::Scalar;
 use c_program::base::BaseSort;
-use c_stepper::number::Number;
 use c_stepper::tree::{Base, Expr, Function, Program, ResultType, Stmt, Stmts};
 use sqlite_items::Items;
 use std::alloc::{AllocError, Global};
 use std::rc::Rc;
+use stepper_values::number::Number;
 
 const INT: Scalar = Scalar::Integer(IntKind::Int);
 

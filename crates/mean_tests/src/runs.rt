@@ -3,15 +3,15 @@
 use crate::reading::program;
 use c_base::integer::Machine;
 use c_base::kind::Kind;
-use c_stepper::layout::{Layout, Object};
 use c_stepper::memory::cells_in;
-use c_stepper::number::Number;
 use c_stepper::stepper::Stepper;
 use c_stepper::tree::Program;
-use c_stepper::value::{Cell, Held};
 use c_stepper::work::{Outcome, State, arrival_of};
 use sqlite_items::Items;
 use std::alloc::{AllocError, Global};
+use stepper_values::layout::{Layout, Object};
+use stepper_values::number::Number;
+use stepper_values::value::{Cell, Held};
 
 pub fn digit(n: u64) -> u8 {
     if n < 10 {
@@ -49,7 +49,7 @@ pub fn held_byte(held: Option<Held>) -> u8 {
             }
         }
         Some(Held::Unusable(kind)) => kind_byte(kind),
-        Some(Held::Cells(_)) => b'c',
+        Some(Held::Cells(_)) | Some(Held::Part(_)) => b'c',
         Some(Held::Absent) => b'a',
         None => b'n',
     }

@@ -3,17 +3,17 @@ use crate::runs::{digit, held_byte, kind_byte, runs_so, told};
 use c_base::integer::{IntKind, Machine};
 use c_base::kind::Kind;
 use c_memory::scalar::Scalar;
-use c_stepper::layout::Layout;
-use c_stepper::number::Number;
 use c_stepper::stack::Stack;
 use c_stepper::stepper::Stepper;
 use c_stepper::tree::{ResultType, Stmts};
-use c_stepper::value::{Cell, Held, Value};
 use c_stepper::work::{Outcome, State, Work};
 use sqlite_items::Items;
 use std::alloc::{AllocError, Global};
 use std::rc::Rc;
 use std::test::Fail;
+use stepper_values::layout::Layout;
+use stepper_values::number::Number;
+use stepper_values::value::{Cell, Held, Value};
 
 #[test]
 fn statements_run(rt: HostRuntime) -> Result<(), Fail> {

@@ -10,7 +10,7 @@ pub returns-then-is_named : goal.returns-then-is_named
 returns-then-is_named t c =
     let there = born-here (layout_of c.args.layout.now) c.args.changes.now c.index-changes-0.result c.in-Born.bases c.args.base
     (sym c.is_empty.ensures ∙ c.if-is_empty.false) c.index-changes-0.is c.in-Born.is (ap (list_any (λ b. c.args.base == b)) (sym c.as_slice-in-Born.ensures) ∙ sym c.is_named.ensures ∙ c.if-is_named.true) in
-    ap Some (c.in_ok-unwritten-in-Born.ensures ∙ ap (λ o. replicate (8 * o.size) Uninit) c.object.ensures) ∙ sym there
+    ap Some (c.in_ok-unwritten-in-Born.ensures ∙ ap (λ o. replicate (8 * o.size) Uninit) c.object_of.ensures) ∙ sym there
 
 pub returns-then-is_named-2 : goal.returns-then-is_named-2
 returns-then-is_named-2 t c =

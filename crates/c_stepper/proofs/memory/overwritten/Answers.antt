@@ -1,5 +1,5 @@
 use Rattle.std.proofs.Common.{◌+◌, ap}
-use Rattle.c_stepper.proofs.Cells.{overwritten-is}
+use Rattle.stepper_values.proofs.Cells.{overwritten-is}
 use Rattle.c_stepper.proofs.memory.overwritten.Goals as goal
 
 pub returns : goal.returns

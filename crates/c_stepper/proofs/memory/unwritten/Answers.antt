@@ -1,7 +1,7 @@
 use Rattle.std.proofs.Common.{arith, rules, refl, ◌≡◌, ◌*◌, ◌∙◌, ap, replicate}
 use Rattle.c_memory.specs.Values as values
-use Rattle.c_stepper.proofs.Cells.{filled-next}
-use Rattle.c_stepper.specs.declared.value.Cell.TheVariants.{Uninit as CodeUninit}
+use Rattle.stepper_values.proofs.Cells.{filled-next}
+use Rattle.stepper_values.specs.declared.value.Cell.TheVariants.{Uninit as CodeUninit}
 use Rattle.c_stepper.proofs.memory.unwritten.Goals as goal
 
 pub loop-preserved : goal.loop-preserved

@@ -1,6 +1,6 @@
 use Rattle.std.proofs.Common.{arith, rules, ◌≡◌, ◌*◌, ◌∙◌, ap, replicate, false}
 use Rattle.c_memory.specs.Values as values
-use Rattle.c_stepper.proofs.Cells.{filled-next}
+use Rattle.stepper_values.proofs.Cells.{filled-next}
 use Rattle.c_stepper.proofs.start.zeros.Goals as goal
 
 pub loop-preserved : goal.loop-preserved

@@ -1,5 +1,0 @@
-use Rattle.std.proofs.Common.{length}
-use Rattle.c_stepper.proofs.value.+pattern_in.Given as goal
-
-abbrev pub decreases-pattern_in : goal.decreases-pattern_in
-decreases-pattern_in l = length l.cells.now

@@ -1,0 +1,3 @@
+pub mod Dying
+pub mod Tables
+pub mod Written

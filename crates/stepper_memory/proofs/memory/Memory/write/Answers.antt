@@ -1,0 +1,14 @@
+use Rattle.std.proofs.Common.{◌∙◌, ap, map, [], Some}
+use Rattle.std.specs.Prelude.{unwrap_or}
+use Rattle.c_memory.specs.Memories.{with_base, overwritten}
+use Rattle.stepper_values.specs.Views.{cell_of}
+use Rattle.stepper_memory.specs.Views.{plain}
+use Rattle.stepper_memory.proofs.Tables.{on_ok}
+use Rattle.stepper_memory.proofs.memory.Memory.write.Goals as goal
+
+pub returns : goal.returns
+returns c =
+    on_ok c.write_base.result
+    (λ done. done c.self.inside.deaths c.self.invariant.died
+    ∙ ap (λ m. with_base (plain m) c.args.base (Some (overwritten (unwrap_or (plain m c.args.base) []) c.args.first (map cell_of c.args.new.now)))) c.self.view_is)
+    c.write_base.ensures.done
