@@ -13,6 +13,7 @@ use Rattle.cell_laws.proofs.Places.{place, length-places, length-spread, Steady,
 use Rattle.cell_laws.proofs.Cuts.{places-append, firsts, seconds, AllEven, cut_is}
 use Rattle.cell_laws.proofs.Ordering.{in_from, start, Bits, known_bits, known_from}
 use Rattle.cell_laws.proofs.Joins.{joined_cell_same}
+use Rattle.run_merges.specs.Widened.{is_same_number, widened_cell}
 use Rattle.exact_laws.specs.Laws.{IsAt, SoleLaws, KeepsSole}
 use Rattle.exact_laws.proofs.Closing.{AllSole}
 use Rattle.exact_laws.proofs.Showing.{ShownAt, Shown, Goes, shown_drop, places_shown, here, front, shows_at, at_drop, at_take, drop_more, some_left}
@@ -261,51 +262,86 @@ module _ {C H K : Type 0} (o : Ops C H) (Fine : ℕ → C → Type 0) (Tint : H 
         joined_stays o merge a b w
         (stays b (places a) ks g t e (omega arith) (places_shown Fine Allows sole ml.allows_length n.some_bits a ks f s d) (Steady-places a) (aligned_places a f))
 
+  -- ---- cells of one content
+
+  same_start : (k : ℕ) (x y : C) → 0 < k → Fine k y → x ≡ y → is_in o k y (spread k x 0 k) ≡ true
+  unfolding spread
+  same_start zero x y p g e = absurd (omega arith)
+  same_start (suc k) x y p g e =
+      in_from o (suc k) y (spread (suc k) x 0 (suc k)) (inl (start o (suc k) y (record { at = 0; bits = suc k; cell = x }) (spread (suc k) x 1 k)
+      (record { at = refl; bits = refl; leq = subst (λ (z : C). o.leq z y ≡ true) (sym e) (ol.leq_refl (suc k) y g) })))
+
+  -- all bits of the first are known, and the second has them
+  record Knows (k : ℕ) (x y : C) : Type 0 where
+    bits : List Bool
+    known_bits : known o (spread k x 0 k) ≡ Some bits
+    has : o.has k y bits ≡ true
+
+  own_known : (k : ℕ) (x y : C) (ks : List K) (bs : List Bool) → Fine k x → Fine k y → sole k x ≡ true → Allows k x ks → Allows k y ks → known o (spread k y 0 k) ≡ Some bs → known o (spread k x 0 k) ≡ Some bs
+  unfolding spread
+  own_known k x y ks bs f g s a b e = at k 0 bs (omega arith) e
+    where
+      step : (i : ℕ) (v : Bool) → i < k → o.bit k i y ≡ Some v → o.bit k i x ≡ Some v
+      step i v h u =
+          let w = ml.allows_length k x ks a in
+          let z = some_left ks i (omega arith) in
+          let p = at_drop ks i z.0 z.1 z.2 in
+          l.sure_known k i x ks z.0 v f s a p ((element_shows k y ks i z.0 g b p).sure v u)
+
+      at : (m i : ℕ) (bs : List Bool) → i + m ≡ k → known o (spread k y i m) ≡ Some bs → known o (spread k x i m) ≡ Some bs
+      at zero i bs q e = e
+      at (suc m) i bs q e =
+          let c = known_bits o (record { at = i; bits = k; cell = y }) (spread k y (suc i) m) bs e in
+          known_from o (record { at = i; bits = k; cell = x }) (spread k x (suc i) m) c.first c.others (step i c.first (omega arith) c.here) (at m (suc i) c.others (omega arith) c.there) ∙ ap Some (sym c.is)
+
+  -- they are one cell, or have one number
+  alone : (k : ℕ) (x y : C) (ks : List K) → Fine k x → Fine k y → sole k x ≡ true → sole k y ≡ true → Allows k x ks → Allows k y ks → (x ≡ y) ⊎ Knows k x y
+  alone k x y ks f g s t a b =
+      let p = n.some_bits k y g in
+      let w = ml.allows_length k x ks a in
+      let z = some_left ks 0 (omega arith) in
+      let q = at_drop ks 0 z.0 z.1 z.2 in
+      elim (cases_Bool (o.blank y)) [
+        | inl e ↦
+            let one = n.blank_bits k y g e in
+            let d = l.bare_blank k 0 x ks z.0 f s a q ((element_shows k y ks 0 z.0 g b q).bare e) in
+            inl (l.blank_same x y ks (subst (λ (m : ℕ). Fine m x) one f) (subst (λ (m : ℕ). Fine m y) one g) (subst (λ (m : ℕ). sole m x ≡ true) one s) (subst (λ (m : ℕ). sole m y ≡ true) one t)
+            d e (subst (λ (m : ℕ). Allows m x ks) one a) (subst (λ (m : ℕ). Allows m y ks) one b))
+        | inr e ↦ elim (cases_Bool (rigid y)) [
+          | inl r ↦
+              let d = l.bound_rigid k 0 x ks z.0 f s a q (l.rigid_bound k 0 y ks z.0 g t r b q) in
+              inl (l.rigid_same k x y ks f g s t d r a b)
+          | inr r ↦
+              let u = l.sole_known k y g t e r in
+              inr (record { bits = u.0; known_bits = own_known k x y ks u.0 f g s a b u.1; has = u.2 })
+        ]
+      ]
+
+  is_known_by : (k : ℕ) (x y : C) → Knows k x y → is_known o k y (spread k x 0 k) ≡ true
+  unfolding is_known has_bits
+  is_known_by k x y h = rw h.known_bits h.has
+
   -- the join of cells makes one of two
   pub join_keeps : KeepsSole Fine Allows sole (joined_cell o)
-  unfolding spread
   join_keeps = record { same = λ k x y ks f g s t a b. joined_cell_same o k x y (together k x y ks f g s t a b) }
     where
-      same_start : (k : ℕ) (x y : C) → 0 < k → Fine k y → x ≡ y → is_in o k y (spread k x 0 k) ≡ true
-      same_start zero x y p g e = absurd (omega arith)
-      same_start (suc k) x y p g e =
-          in_from o (suc k) y (spread (suc k) x 0 (suc k)) (inl (start o (suc k) y (record { at = 0; bits = suc k; cell = x }) (spread (suc k) x 1 k)
-          (record { at = refl; bits = refl; leq = subst (λ (z : C). o.leq z y ≡ true) (sym e) (ol.leq_refl (suc k) y g) })))
-
-      own_known : (k : ℕ) (x y : C) (ks : List K) (bs : List Bool) → Fine k x → Fine k y → sole k x ≡ true → Allows k x ks → Allows k y ks → known o (spread k y 0 k) ≡ Some bs → known o (spread k x 0 k) ≡ Some bs
-      own_known k x y ks bs f g s a b e = at k 0 bs (omega arith) e
-        where
-          step : (i : ℕ) (v : Bool) → i < k → o.bit k i y ≡ Some v → o.bit k i x ≡ Some v
-          step i v h u =
-              let w = ml.allows_length k x ks a in
-              let z = some_left ks i (omega arith) in
-              let p = at_drop ks i z.0 z.1 z.2 in
-              l.sure_known k i x ks z.0 v f s a p ((element_shows k y ks i z.0 g b p).sure v u)
-
-          at : (m i : ℕ) (bs : List Bool) → i + m ≡ k → known o (spread k y i m) ≡ Some bs → known o (spread k x i m) ≡ Some bs
-          at zero i bs q e = e
-          at (suc m) i bs q e =
-              let c = known_bits o (record { at = i; bits = k; cell = y }) (spread k y (suc i) m) bs e in
-              known_from o (record { at = i; bits = k; cell = x }) (spread k x (suc i) m) c.first c.others (step i c.first (omega arith) c.here) (at m (suc i) c.others (omega arith) c.there) ∙ ap Some (sym c.is)
-
       together : (k : ℕ) (x y : C) (ks : List K) → Fine k x → Fine k y → sole k x ≡ true → sole k y ≡ true → Allows k x ks → Allows k y ks → is_in o k y (spread k x 0 k) ≡ true
       together k x y ks f g s t a b =
-          let p = n.some_bits k y g in
-          let w = ml.allows_length k x ks a in
-          let z = some_left ks 0 (omega arith) in
-          let q = at_drop ks 0 z.0 z.1 z.2 in
-          elim (cases_Bool (o.blank y)) [
-            | inl e ↦
-                let one = n.blank_bits k y g e in
-                let d = l.bare_blank k 0 x ks z.0 f s a q ((element_shows k y ks 0 z.0 g b q).bare e) in
-                same_start k x y p g (l.blank_same x y ks (subst (λ (m : ℕ). Fine m x) one f) (subst (λ (m : ℕ). Fine m y) one g) (subst (λ (m : ℕ). sole m x ≡ true) one s) (subst (λ (m : ℕ). sole m y ≡ true) one t)
-                d e (subst (λ (m : ℕ). Allows m x ks) one a) (subst (λ (m : ℕ). Allows m y ks) one b))
-            | inr e ↦ elim (cases_Bool (rigid y)) [
-              | inl r ↦
-                  let d = l.bound_rigid k 0 x ks z.0 f s a q (l.rigid_bound k 0 y ks z.0 g t r b q) in
-                  same_start k x y p g (l.rigid_same k x y ks f g s t d r a b)
-              | inr r ↦
-                  let u = l.sole_known k y g t e r in
-                  has_known k y (spread k x 0 k) u.0 (own_known k x y ks u.0 f g s a b u.1) u.2
-            ]
+          elim (alone k x y ks f g s t a b) [
+            | inl e ↦ same_start k x y (n.some_bits k y g) g e
+            | inr e ↦ has_known k y (spread k x 0 k) e.bits e.known_bits e.has
           ]
+
+  -- so does a widening that keeps each cell with itself
+  pub widening_keeps : (widened : ℕ → C → C → C) → ((k : ℕ) (x : C) → Fine k x → sole k x ≡ true → widened k x x ≡ x) → KeepsSole Fine Allows sole (widened_cell o widened)
+  unfolding widened_cell is_same_number
+  widening_keeps widened keeps = record { same = λ k x y ks f g s t a b. both k x y f s (alone k x y ks f g s t a b) (alone k y x ks g f t s b a) }
+    where
+      kept : (k : ℕ) (x y : C) → Fine k x → sole k x ≡ true → x ≡ y → (b : Bool) → cond b y (widened k x y) ≡ y
+      kept k x y f s e true = refl
+      kept k x y f s e false = ap (widened k x) (sym e) ∙ keeps k x f s ∙ e
+
+      both : (k : ℕ) (x y : C) → Fine k x → sole k x ≡ true → (x ≡ y) ⊎ Knows k x y → (y ≡ x) ⊎ Knows k y x → cond (is_known o k y (spread k x 0 k) && is_known o k x (spread k y 0 k)) y (widened k x y) ≡ y
+      both k x y f s (inl e) q = kept k x y f s e (is_known o k y (spread k x 0 k) && is_known o k x (spread k y 0 k))
+      both k x y f s (inr p) (inl e) = kept k x y f s (sym e) (is_known o k y (spread k x 0 k) && is_known o k x (spread k y 0 k))
+      both k x y f s (inr p) (inr q) = ap (λ (b : Bool). cond b y (widened k x y)) (and_from (is_known o k y (spread k x 0 k)) (is_known o k x (spread k y 0 k)) (is_known_by k x y p) (is_known_by k y x q))

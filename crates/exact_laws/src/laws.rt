@@ -4,6 +4,7 @@ ghost use Rattle.cell_laws.specs.Elements.{Element, AllFine, width};
 ghost use Rattle.cell_laws.specs.Meaning.{Describes};
 ghost use Rattle.cell_laws.specs.Join.{joined, joined_cell};
 ghost use Rattle.cell_laws.specs.Access.{copied, pasted, put, repeated, stored, loaded, IsSize};
+ghost use Rattle.run_merges.specs.Widened.{widened_cell};
 ghost use Rattle.run_orders.specs.Singles.{all_single};
 ghost use Rattle.run_orders.specs.Deaths.{left_all};
 ghost use Rattle.offmap_laws.specs.Contents.{AllAlike};
@@ -85,12 +86,19 @@ pub fn join_of_sole<C: Cells, M: Concrete<C>, S: Sole<C, M>>()
         Describes (M.allows world) b ks → joined C.ops (joined_cell C.ops) a b ≡ b }
 {}
 
-/// So is a widening that keeps sole cells.
+/// So is a widening by what keeps sole cells.
 pub fn widening_of_sole<C: Cells, M: Concrete<C>, S: Sole<C, M>>()
     ensures { (world : M.World) (merge : ℕ → C → C → C) (a b : List (Element C)) (ks : List M.Bit) →
         KeepsSole C.fine (M.allows world) S.sole merge → AllFine C.fine a → AllFine C.fine b →
         all_single S.sole a ≡ true → all_single S.sole b ≡ true → width a ≡ width b → Describes (M.allows world) a ks →
         Describes (M.allows world) b ks → joined C.ops merge a b ≡ b }
+{}
+
+/// The widening of cells keeps them, where what it is made of gives each sole cell with itself again.
+pub fn widening_keeps_sole<C: Cells, M: Concrete<C>, S: Sole<C, M>>()
+    ensures { (world : M.World) (widened : ℕ → C → C → C) →
+        ((k : ℕ) (x : C) → C.fine k x → S.sole k x ≡ true → widened k x x ≡ x) →
+        KeepsSole C.fine (M.allows world) S.sole (widened_cell C.ops widened) }
 {}
 
 /// What is left of a sole map when an object has died is sole.

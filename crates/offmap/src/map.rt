@@ -5,6 +5,7 @@ ghost use Rattle.cell_laws.specs.Order.{included};
 ghost use Rattle.cell_laws.specs.Join.{joined, joined_cell};
 ghost use Rattle.cell_laws.specs.Access.{copied, pasted, repeated, put, stored, loaded, loaded_all, weakened, IsSize, AllWithin};
 ghost use Rattle.cell_runs.specs.Runs.{elements, AllSome, AreApart};
+ghost use Rattle.run_merges.specs.Widened.{widened_cell};
 ghost use Rattle.run_orders.specs.Singles.{all_single};
 ghost use Rattle.run_orders.specs.Deaths.{left_all};
 ghost use Rattle.run_slots.specs.Slots.{slots_weakened};
@@ -181,7 +182,7 @@ impl<C: Cells> OffMap<C> {
         second: &OffMap<C>,
     ) -> Mem<OffMap<C>>
         requires { width first.now ≡ width second.now }
-        ensures { IfOk result (λ m. m ≡ joined C.ops (W.widened by.now) first.now second.now) }
+        ensures { IfOk result (λ m. m ≡ joined C.ops (widened_cell C.ops (W.widened by.now)) first.now second.now) }
     {
         OffMap::merge(alloc, &Widening { by }, first, second)
     }

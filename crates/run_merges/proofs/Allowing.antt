@@ -11,6 +11,7 @@ use Rattle.cell_laws.specs.Join.{joined_cell}
 use Rattle.cell_laws.proofs.Places.{length-spread}
 use Rattle.cell_laws.proofs.Ordering.{known_length}
 use Rattle.run_places.proofs.Knowing.{with_more}
+use Rattle.run_merges.specs.Widened.{is_same_number, widened_cell}
 
 -- the bits before an index are known
 pub record KnowsTo {C H : Type 0} (o : Ops C H) (k : ℕ) (x : C) (i : ℕ) (out : List Bool) : Type 0 where
@@ -122,3 +123,19 @@ module _ {C H : Type 0} (o : Ops C H) where
   pub cell_joined : (k : ℕ) (x y : C) → is_in o k y (spread k x 0 k) ≡ false → o.join x y ≡ joined_cell o k x y
   unfolding joined_cell
   cell_joined k x y h = sym (rw h refl)
+
+  pub other_number : (k : ℕ) (x y : C) → is_known o k y (spread k x 0 k) ≡ false → false ≡ is_same_number o k x y
+  unfolding is_same_number
+  other_number k x y h = sym (ap (λ (b : Bool). b && is_known o k x (spread k y 0 k)) h)
+
+  pub one_number : (k : ℕ) (x y : C) → is_known o k y (spread k x 0 k) ≡ true → is_known o k x (spread k y 0 k) ≡ is_same_number o k x y
+  unfolding is_same_number
+  one_number k x y h = sym (ap (λ (b : Bool). b && is_known o k x (spread k y 0 k)) h)
+
+  pub cell_same : (widened : ℕ → C → C → C) (k : ℕ) (x y : C) → is_same_number o k x y ≡ true → y ≡ widened_cell o widened k x y
+  unfolding widened_cell
+  cell_same widened k x y h = sym (rw h refl)
+
+  pub cell_widened : (widened : ℕ → C → C → C) (k : ℕ) (x y : C) → is_same_number o k x y ≡ false → widened k x y ≡ widened_cell o widened k x y
+  unfolding widened_cell
+  cell_widened widened k x y h = sym (rw h refl)

@@ -4,6 +4,7 @@ ghost use Rattle.arrayvec.specs.ArrayVec.{array_vec_len};
 ghost use Rattle.cell_laws.specs.Elements.{spread};
 ghost use Rattle.cell_laws.specs.Order.{known, is_in, is_known};
 ghost use Rattle.run_places.specs.Spots.{OnBits};
+ghost use Rattle.run_merges.specs.Widened.{is_same_number};
 
 use arrayvec::ArrayVec;
 use cell_runs::cells::Cells;
@@ -69,4 +70,17 @@ pub(crate) fn is_allowed<C: Cells>(first: &C, bits: u64, second: &C) -> bool
         return true;
     }
     is_known(first, bits, second)
+}
+
+/// Whether both have the same number alone.
+pub(crate) fn is_same_number<C: Cells>(first: &C, bits: u64, second: &C) -> bool
+    requires first { C.fine bits first.now }
+    requires second { C.fine bits second.now }
+    requires few { bits ≤ 64 }
+    ensures { result ≡ is_same_number C.ops bits first.now second.now }
+{
+    if !is_known(first, bits, second) {
+        return false;
+    }
+    is_known(second, bits, first)
 }

@@ -1,8 +1,9 @@
 //! The widening, as a way to make one map of two.
 ghost use Rattle.std.specs.Prelude.{◌≡◌, ℕ, IfOk};
 ghost use Rattle.run_places.specs.Widens.{WidenLaws};
-ghost use Rattle.run_places.proofs.Widened.{widened_laws};
+ghost use Rattle.run_merges.specs.Widened.{widened_cell, widened_cell_laws};
 
+use crate::allowed::is_same_number;
 use cell_runs::Mem;
 use cell_runs::cells::Cells;
 use run_places::merge::Merge;
@@ -21,18 +22,21 @@ pub trait Widens<C: Cells> {
     ghost laws: { (w : Self) → WidenLaws C.ops C.fine (widened w) };
 }
 
-/// The widening.
+/// The widening: of cells that have the same number alone it is the second.
 #[derive(Drop)]
 pub struct Widening<'a, W> {
     pub by: &'a W,
 }
 
 impl<'a, C: Cells, W: Widens<C>> Merge<C> for Widening<'a, W> {
-    ghost merged = { λ w. W.widened w.by.now };
+    ghost merged = { λ w. widened_cell C.ops (W.widened w.by.now) };
 
     fn merge(&self, alloc: Global, bits: u64, first: &C, second: &C) -> Mem<C> {
+        if is_same_number(first, bits, second) {
+            return second.copy(alloc);
+        }
         self.by.widen(alloc, bits, first, second)
     }
 
-    ghost laws = { λ w. widened_laws C.ops C.fine (W.widened w.by.now) C.fine_laws (W.laws w.by.now) };
+    ghost laws = { λ w. widened_cell_laws C.ops C.fine (W.widened w.by.now) C.fine_laws C.order_laws (W.laws w.by.now) };
 }
