@@ -21,7 +21,7 @@ use ival_core::{Ival, run_from};
 use std::alloc::Global;
 
 /// The bits of a pointer.
-fn pointer_bits(m: Machine) -> u32
+pub fn pointer_bits(m: Machine) -> u32
     ensures value { result ≡ pointer_bits m }
     ensures some { 0 < result }
     ensures few { result ≤ 64 }
@@ -32,7 +32,7 @@ fn pointer_bits(m: Machine) -> u32
 }
 
 /// The numbers as those of a type.
-fn wrapped(signed: bool, bits: u32, a: &Ival) -> Ival
+pub fn wrapped(signed: bool, bits: u32, a: &Ival) -> Ival
     requires { (0 < bits) × (bits ≤ 64) }
     ensures value { result ≡ wrapped_set signed bits a.now }
     ensures holds { (n : ℤ) → Holds a.now n → Holds result (reduced signed bits n) }

@@ -5,5 +5,6 @@ mod convert;
 mod integers;
 mod numbers;
 
-pub use convert::converted;
+pub use convert::{converted, pointer_bits, wrapped};
 pub use integers::{Computed, on_integers};
+pub use numbers::{related, truth_set};

@@ -13,7 +13,7 @@ use ival_bits::{bitwise, shift};
 use ival_core::{Ival, run_from};
 
 /// 0 where the truth may be false, 1 where it may be true.
-pub(crate) fn truth_set(may_be_true: bool, may_be_false: bool) -> Ival
+pub fn truth_set(may_be_true: bool, may_be_false: bool) -> Ival
     ensures { result ≡ truth_set may_be_true may_be_false }
 {
     if !may_be_true {
@@ -29,7 +29,7 @@ pub(crate) fn truth_set(may_be_true: bool, may_be_false: bool) -> Ival
 }
 
 /// The truths of a relation of numbers of two sets.
-pub(crate) fn related(rel: Rel, a: &Ival, b: &Ival) -> Ival
+pub fn related(rel: Rel, a: &Ival, b: &Ival) -> Ival
     ensures { result ≡ related rel a.now b.now }
 {
     let truths = compare(rel, a, b);
