@@ -42,7 +42,7 @@ use Rattle.aops_pointers.proofs.Images.{image_holds}
 
 -- ---- sets
 
-option_same : (r : Option Ival) (o : Option Shape) → shape_option r ≡ o → r ≡ option_set o
+pub option_same : (r : Option Ival) (o : Option Shape) → shape_option r ≡ o → r ≡ option_set o
 option_same None None e = refl
 option_same None (Some s) e = cc
 option_same (Some v) None e = cc

@@ -128,20 +128,20 @@ or_false : (a : Bool) → (a || false) ≡ a
 or_false true = refl
 or_false false = refl
 
-no : (t : Bool) → t ≡ false → t ≡ true → ⊥
+pub no : (t : Bool) → t ≡ false → t ≡ true → ⊥
 no true e f = cc
 no false e f = cc
 
 -- ---- numbers
 
-word_in : (n : ℤ) → IsWord n → Holds words n
+pub word_in : (n : ℤ) → IsWord n → Holds words n
 unfolding words
 word_in n w =
     let a = w.low in
     let b = w.high in
     record { above = a; below = omega (arith, ints); meets = one-dvd (apart (pos 0) n) }
 
-plain_apart : (l : Layout) (x y : Value) → only_base l x ≡ None → are_of_one_object l x y ≡ false
+pub plain_apart : (l : Layout) (x y : Value) → only_base l x ≡ None → are_of_one_object l x y ≡ false
 plain_apart l x y e = rw e refl
 
 right_numbers : (rel : Rel) (l : Layout) (x y : Value) (ns ms : Ival) → x.provenance ≡ nowhere → y.provenance ≡ nowhere → Holds ns x.number → Holds ms y.number → IsWord x.number → IsWord y.number → IsRight rel l x y (two_numbers rel ns ms)
@@ -237,7 +237,7 @@ module _ (l : Layout) (size : ℕ) (a : Address) (ns : Ival) (x y : Value) (n : 
 
 -- ---- two addresses
 
-share_same : (l : Layout) (x y : Value) (b : ℕ) → only_base l x ≡ Some b → only_base l y ≡ Some b → are_of_one_object l x y ≡ (is_in_or_behind l b x && is_in_or_behind l b y)
+pub share_same : (l : Layout) (x y : Value) (b : ℕ) → only_base l x ≡ Some b → only_base l y ≡ Some b → are_of_one_object l x y ≡ (is_in_or_behind l b x && is_in_or_behind l b y)
 share_same l x y b e f = let s : (b == b) ≡ true = eq-eqb b b refl in rw (e, f, s) refl
 
 comparable_same : (l : Layout) (x y : Value) (b : ℕ) → is_plain x ≡ false → is_plain y ≡ false → only_base l x ≡ Some b → only_base l y ≡ Some b → are_comparable l x y ≡ (is_in_or_behind l b x && is_in_or_behind l b y)
@@ -246,7 +246,7 @@ comparable_same l x y b e f g h = let s : (b == b) ≡ true = eq-eqb b b refl in
 comparable_apart : (l : Layout) (x y : Value) (b c : ℕ) → is_plain x ≡ false → is_plain y ≡ false → only_base l x ≡ Some b → only_base l y ≡ Some c → (b == c) ≡ false → are_comparable l x y ≡ (is_inside l b x && is_inside l c y)
 comparable_apart l x y b c e f g h s = rw (e, f, g, h, s) refl
 
-share_apart : (l : Layout) (x y : Value) (b c : ℕ) → only_base l x ≡ Some b → only_base l y ≡ Some c → (b == c) ≡ false → are_of_one_object l x y ≡ false
+pub share_apart : (l : Layout) (x y : Value) (b c : ℕ) → only_base l x ≡ Some b → only_base l y ≡ Some c → (b == c) ≡ false → are_of_one_object l x y ≡ false
 share_apart l x y b c e f s = rw (e, f, s) refl
 
 right_same : (rel : Rel) (l : Layout) (b size : ℕ) (x y : Value) (a c : Address) (o i : ℤ) → Spot l b o x → Spot l b i y → l.size b ≡ size → Holds a.offsets o → Holds c.offsets i → IsRight rel l x y (one_base rel size a c)
@@ -318,10 +318,10 @@ right_apart rel l size_of b d left right x y a c o i pl hb hd n s t e f h k = at
 
 -- ---- values
 
-one_named : (l : Layout) (v : AVal) (b : ℕ) → all_among (bases_of v) l.bases ≡ true → has_base (bases_of v) b ≡ true → has_base l.bases b ≡ true
+pub one_named : (l : Layout) (v : AVal) (b : ℕ) → all_among (bases_of v) l.bases ≡ true → has_base (bases_of v) b ≡ true → has_base l.bases b ≡ true
 one_named l v b h k = among-has (bases_of v) l.bases h b k
 
-address_spot : (l : Layout) (size_of : ℕ → ℕ) (v : AVal) (a : Address) (x : Value) → IsPlaced l size_of → all_among (bases_of v) l.bases ≡ true → (i : IsOne l v a x) → Spot l a.base i.means.offset x
+pub address_spot : (l : Layout) (size_of : ℕ → ℕ) (v : AVal) (a : Address) (x : Value) → IsPlaced l size_of → all_among (bases_of v) l.bases ≡ true → (i : IsOne l v a x) → Spot l a.base i.means.offset x
 address_spot l size_of v a x p h i = spot l size_of a x p (one_named l v a.base h i.base) i.near i.means
 
 null_of : (l : Layout) (size_of : ℕ → ℕ) (v w : AVal) (a : Address) (ns : Ival) (x y : Value) → IsPlaced l size_of → all_among (bases_of v) l.bases ≡ true → IsOne l v a x → numbers_alone w ≡ Some ns → Means l w y → AreNull l (size_of a.base) a ns x y

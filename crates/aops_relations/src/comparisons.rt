@@ -57,7 +57,7 @@ fn untied(rel: Rel) -> Ival
 }
 
 /// The set where the test holds, or nothing.
-fn set_if(test: bool, set: Ival) -> Ival
+pub(crate) fn set_if(test: bool, set: Ival) -> Ival
     ensures { result ≡ cond test set nothing }
 {
     if test { set } else { truth_set(false, false) }
@@ -138,7 +138,7 @@ fn words() -> Ival
 }
 
 /// Whether no number is a pointer's.
-fn has_no_word(numbers: &Ival) -> bool
+pub(crate) fn has_no_word(numbers: &Ival) -> bool
     ensures { result ≡ is_empty (meet_of numbers.now words).shape }
 {
     is_none(&meet_of(numbers, &words()))

@@ -4,6 +4,8 @@
 #![tactic(auto)]
 
 mod comparisons;
+mod differences;
 mod places;
 
 pub use comparisons::{Verdict, compared};
+pub use differences::differed;
