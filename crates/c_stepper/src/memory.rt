@@ -96,7 +96,7 @@ fn is_reached(
         return Ok(false);
     }
     match cells_in(alloc, layout, memory.as_slice(), base)? {
-        Some(_) => Ok(is_within(layout, bytes, base, at.number)),
+        Some(_) => Ok(is_within(layout, bytes as u64, base, at.number)),
         None => Ok(false),
     }
 }

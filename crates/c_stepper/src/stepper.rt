@@ -19,11 +19,12 @@ use c_memory::scalar::Scalar;
 use sqlite_items::Items;
 use std::alloc::{AllocError, Global};
 use std::rc::Rc;
+use stepper_held::returns::handed;
 use stepper_values::layout::Layout;
 use stepper_values::number::{Number, computed, is_zero};
 use stepper_values::operators::bases_after;
 use stepper_values::places::address_of;
-use stepper_values::value::{Held, Value, is_touched, part_value, plain, used, withered};
+use stepper_values::value::{Held, Value, part_value, plain, used};
 
 /// Steps through programs whose objects stand where the layout says.
 #[derive(Drop)]
@@ -496,25 +497,6 @@ impl Stepper {
             }
             Effect::Stuck => Ok(Outcome::Ends),
         }
-    }
-}
-
-/// What was made from the address of an object that dies in the return can't be used behind it.
-fn handed(alloc: Global, held: Held, dying: &[u32]) -> Result<Held, AllocError>
-    ensures { IfOk result (λ after. held_of after ≡ machine.handed dying.now (held_of held)) }
-{
-    match held {
-        Held::Usable(value) => {
-            if is_touched(value.bases.as_slice(), dying) {
-                Ok(Held::Unusable(Kind::DanglingPointer))
-            } else {
-                Ok(Held::Usable(value))
-            }
-        }
-        Held::Unusable(kind) => Ok(Held::Unusable(kind)),
-        Held::Cells(cells) => Ok(Held::Cells(withered(alloc, dying, cells.as_slice())?)),
-        Held::Absent => Ok(Held::Absent),
-        Held::Part(cells) => Ok(Held::Part(cells)),
     }
 }
 

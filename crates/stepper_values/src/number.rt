@@ -237,12 +237,28 @@ fn scaled(count: Number, size: u64) -> i128
     wide(count) * size as i128
 }
 
+/// The pattern of so many bits that stands for any number.
+pub fn pattern_of_wide(bits: u32, n: i128) -> u64
+    requires { bits ≤ 64 }
+    ensures { result ≡ integers.residue (2 ^ bits) n }
+{
+    n.rem_euclid(patterns(bits) as i128) as u64
+}
+
 /// The address that a number is.
 fn wrapped(machine: Machine, n: i128) -> Number
     ensures { number_of result ≡ conversions.address_number machine n }
 {
     let bits = 8 * size_of_scalar(Scalar::Pointer, machine);
     Number::Natural(n.rem_euclid(patterns(bits) as i128) as u64)
+}
+
+/// The address so many bytes behind another.
+pub fn number_behind(machine: Machine, n: Number, bytes: u64) -> Number
+    requires { bytes ≤ 2 ^ 62 }
+    ensures { number_of result ≡ conversions.address_number machine (number_of n +ℤ pos bytes) }
+{
+    wrapped(machine, wide(n) + bytes as i128)
 }
 
 /// The address so many elements behind another, or, `true`, before it.

@@ -35,7 +35,7 @@ pub fn address_of(alloc: Global, layout: &Layout, base: u32) -> Result<Value, Al
 }
 
 /// An access of so many bytes at the address lies in the base.
-pub fn is_within(layout: &Layout, bytes: u32, base: u32, at: Number) -> bool
+pub fn is_within(layout: &Layout, bytes: u64, base: u32, at: Number) -> bool
     ensures { result ≡ memories.is_within (layout_of layout.now) bytes base (number_of at) }
 {
     let whole = object_of(layout, base);
@@ -43,6 +43,17 @@ pub fn is_within(layout: &Layout, bytes: u32, base: u32, at: Number) -> bool
         Number::Natural(n) => whole.address <= n
             && (n - whole.address) as u128 + bytes as u128 <= whole.size as u128,
         Number::Negative(_) => false,
+    }
+}
+
+/// How many bytes the address lies behind the base's first one.
+pub fn offset_in(layout: &Layout, base: u32, at: &Value) -> u128
+    ensures value { result ≡ memories.offset_in (layout_of layout.now) base (value_of at.now) }
+    ensures small { result ≤ 2 ^ 70 }
+{
+    match at.number {
+        Number::Natural(n) => n.saturating_sub(object_of(layout, base).address) as u128,
+        Number::Negative(_) => 0,
     }
 }
 

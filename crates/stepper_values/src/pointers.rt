@@ -1,6 +1,6 @@
 //! C's operators on pointers (C11 6.5.6, 6.5.8, 6.5.9, 6.5.2.1).
 
-ghost use Rattle.std.specs.Prelude.{◌≡◌, ◌≤◌, ◌<◌, ◌^◌, ◌==◌, ◌-ℤ◌, ◌≤ℤ◌, ◌&&◌, neg_ℤ, pos, cond, not, int_div, Some, IfOk};
+ghost use Rattle.std.specs.Prelude.{◌≡◌, ◌≤◌, ◌<◌, ◌*◌, ◌^◌, ◌==◌, ◌-ℤ◌, ◌≤ℤ◌, ◌&&◌, neg_ℤ, pos, cond, not, int_div, unsigned_abs, None, Some, IfOk};
 ghost use Rattle.std.specs.List.{list_any};
 ghost use Rattle.std.specs.FinSet as sets;
 ghost use Rattle.c_machine.specs.Parts as parts;
@@ -223,6 +223,23 @@ fn is_index(count: u64, end: bool, index: Number) -> bool
     match index {
         Number::Natural(n) => if end { n <= count } else { n < count },
         Number::Negative(_) => false,
+    }
+}
+
+/// How many bits an element lies behind the first one, if there is one with the index.
+pub fn element_offset(bytes: u64, count: u64, end: bool, index: Number) -> Option<u128>
+    requires { bytes ≤ 2 ^ 60 }
+    ensures { result ≡ cond (parts.is_index count end (number_of index)) (Some (8 * (bytes * unsigned_abs (number_of index)))) None }
+{
+    match index {
+        Number::Natural(n) => {
+            if is_index(count, end, index) {
+                Some(8 * (bytes as u128 * n as u128))
+            } else {
+                None
+            }
+        }
+        Number::Negative(_) => None,
     }
 }
 

@@ -10,7 +10,7 @@ ghost use Rattle.c_memory.specs.Values as values;
 ghost use Rattle.c_machine.specs.Work as machine;
 ghost use Rattle.stepper_values.specs.Views.{number_of, bases_of, value_of, cell_of, held_of, value_result_of};
 
-use crate::number::{Number, pattern_of, scalar_in, size_of_scalar};
+use crate::number::{Number, pattern_of, pattern_of_wide, scalar_in, size_of_scalar};
 use c_base::integer::Machine;
 use c_base::kind::Kind;
 use c_memory::scalar::Scalar;
@@ -273,6 +273,26 @@ fn cells_from(
     Ok(cells)
 }
 
+/// What a store of so many bits of the value writes.
+pub fn cells_of_bits(
+    alloc: Global,
+    machine: Machine,
+    bits: u32,
+    value: &Value,
+) -> Result<Items<Cell>, AllocError>
+    requires { bits ≤ 64 }
+    ensures { IfOk result (λ cells. map cell_of cells ≡ values.cells_of machine bits (value_of value.now)) }
+{
+    match machine {
+        Machine::Lp64 => cells_from(
+            alloc,
+            pattern_of(bits, value.number),
+            bits,
+            value.bases.as_slice(),
+        ),
+    }
+}
+
 /// What a store of the value as the type writes.
 pub fn cells_of(
     alloc: Global,
@@ -283,14 +303,22 @@ pub fn cells_of(
     ensures { IfOk result (λ cells. map cell_of cells ≡ values.cells_of machine (scalars.bits_of_scalar
         scalar machine) (value_of value.now)) }
 {
-    let bits = 8 * size_of_scalar(scalar, machine);
+    cells_of_bits(alloc, machine, 8 * size_of_scalar(scalar, machine), value)
+}
+
+/// The same of a number and bases that need not be those of a value.
+pub fn cells_of_wide(
+    alloc: Global,
+    machine: Machine,
+    bits: u32,
+    number: i128,
+    bases: &[u32],
+) -> Result<Items<Cell>, AllocError>
+    requires { bits ≤ 64 }
+    ensures { IfOk result (λ cells. map cell_of cells ≡ values.cells_of machine bits record { number = number; provenance = bases_of bases.now }) }
+{
     match machine {
-        Machine::Lp64 => cells_from(
-            alloc,
-            pattern_of(bits, value.number),
-            bits,
-            value.bases.as_slice(),
-        ),
+        Machine::Lp64 => cells_from(alloc, pattern_of_wide(bits, number), bits, bases),
     }
 }
 
