@@ -10,7 +10,7 @@ use Rattle.avalue_base.specs.Lists.{AreAscending}
 use Rattle.avalue_base.specs.Numbers.{is_empty, no_numbers}
 use Rattle.avalue_base.specs.Values.{Address, AVal, Separate, Mixed, base_of}
 use Rattle.avalue_base.specs.Pieces.{no_value}
-use Rattle.avalue.specs.Views.{addresses_of, held_value}
+use Rattle.avalue_values.specs.Views.{addresses_of, held_value}
 use Rattle.cell_contents.specs.Contents.{rest_in, is_rest, all_leave, is_one_value}
 
 and_false : (b : Bool) → (b && false) ≡ false

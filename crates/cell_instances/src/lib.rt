@@ -3,12 +3,14 @@
 #![tactic(auto)]
 
 pub mod deaths;
+pub mod growing;
 pub mod laws;
 pub mod meaning;
 pub mod singles;
 pub mod soles;
 
 pub use deaths::DeathOf;
+pub use growing::Growing;
 pub use meaning::InLayouts;
 pub use singles::OneContent;
 pub use soles::OneAlone;

@@ -1,7 +1,7 @@
 //! Which cells of values have one content.
 ghost use Rattle.std.specs.Prelude.{◌≡◌, ◌≤◌, ◌^◌, is_some};
 ghost use Rattle.avalue_base.specs.Numbers.{is_empty};
-ghost use Rattle.avalue.specs.Views.{held_value};
+ghost use Rattle.avalue_values.specs.Views.{held_value};
 ghost use Rattle.cell_contents.specs.Contents.{rest_in, is_one_value, is_single};
 
 use avalue::{AVal, Cellv};
