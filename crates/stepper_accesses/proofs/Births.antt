@@ -13,12 +13,8 @@ use Rattle.c_typed_stmt.specs.declared.init.ImageItem.{ImageItem}
 use Rattle.stepper_accesses.specs.Arguments.{argument_of}
 use Rattle.stepper_accesses.specs.declared.scopes.Argument.{Argument as CodeArgument}
 use Rattle.stepper_memory.proofs.Tables.{same_base}
-use Rattle.stepper_memory.proofs.Written.{drop_next, drop_all}
-
-same_item : {A : Type 0} (xs : List A) (i : ℕ) (d e : A) → i < length xs → get_or xs i d ≡ get_or xs i e
-same_item [] i d e h = absurd (omega arith)
-same_item (x ∷ xs) zero d e h = refl
-same_item (x ∷ xs) (suc i) d e h = same_item xs i d e (omega arith)
+use Rattle.std.proofs.lemmas.List.{drop_all, get_or_default}
+use Rattle.stepper_memory.proofs.Written.{drop_next}
 
 -- ---- births
 
@@ -45,10 +41,10 @@ pub born_next : (l : Layout) (bases : List ℕ) (i b : ℕ) (goal m after : Memo
     after ≡ with_base m b (Some (replicate (8 * l.size b) Uninit)) → born l (drop (i + 1) bases) after ≡ goal
 born_next l bases i b goal m after h is inv e =
     ap (born l (drop (i + 1) bases)) e ∙ born_first l b (drop (i + 1) bases) m
-    ∙ ap (λ bs. born l bs m) (sym (drop_next bases i b h (is ∙ same_item bases i 0 b h))) ∙ inv
+    ∙ ap (λ bs. born l bs m) (sym (drop_next bases i b h (is ∙ get_or_default bases i 0 b h))) ∙ inv
 
 pub born_done : (l : Layout) (bases : List ℕ) (i : ℕ) (goal m : Memory) → length bases ≤ i → born l (drop i bases) m ≡ goal → m ≡ goal
-born_done l bases i goal m h inv = ap (λ bs. born l bs m) (sym (drop_all bases i h)) ∙ inv
+born_done l bases i goal m h inv = ap (λ bs. born l bs m) (sym (drop_all i bases h)) ∙ inv
 
 -- ---- arguments
 
@@ -75,12 +71,12 @@ pub passed_next : (l : Layout) (formals : List ℕ) (arguments : List CodeArgume
     passed l (drop (i + 1) formals) (drop (i + 1) (map argument_of arguments)) after ≡ goal
 passed_next l formals arguments i b a goal m after h is item inv e =
     ap (passed l (drop (i + 1) formals) (drop (i + 1) (map argument_of arguments))) e
-    ∙ ap (λ bs. passed l bs (argument_of a ∷ drop (i + 1) (map argument_of arguments)) m) (sym (drop_next formals i b h (is ∙ same_item formals i 0 b h)))
+    ∙ ap (λ bs. passed l bs (argument_of a ∷ drop (i + 1) (map argument_of arguments)) m) (sym (drop_next formals i b h (is ∙ get_or_default formals i 0 b h)))
     ∙ ap (λ given. passed l (drop i formals) given m) (sym (drop_get arguments i a item)) ∙ inv
 
 pub passed_all : (l : Layout) (formals : List ℕ) (arguments : List Argument) (i : ℕ) (goal m : Memory) → length formals ≤ i →
     passed l (drop i formals) (drop i arguments) m ≡ goal → m ≡ goal
-passed_all l formals arguments i goal m h inv = ap (λ bs. passed l bs (drop i arguments) m) (sym (drop_all formals i h)) ∙ inv
+passed_all l formals arguments i goal m h inv = ap (λ bs. passed l bs (drop i arguments) m) (sym (drop_all i formals h)) ∙ inv
 
 none_left : (l : Layout) (bases : List ℕ) (m : Memory) → passed l bases [] m ≡ m
 none_left l [] m = refl
@@ -166,7 +162,7 @@ pub pasted_out : (l : Layout) (b : ℕ) (image : List ImageItem) (n : ℕ) (goal
 pasted_out l b image n goal m e inv = sym (pasted_nothing l b m) ∙ ap (λ is. pasted l b is m) (sym (items_out image n e)) ∙ inv
 
 pub pasted_done : (l : Layout) (b : ℕ) (image : List ImageItem) (n : ℕ) (goal m : Memory) → length image ≤ n → pasted l b (drop n image) m ≡ goal → m ≡ goal
-pasted_done l b image n goal m h inv = sym (pasted_nothing l b m) ∙ ap (λ is. pasted l b is m) (sym (drop_all image n h)) ∙ inv
+pasted_done l b image n goal m h inv = sym (pasted_nothing l b m) ∙ ap (λ is. pasted l b is m) (sym (drop_all n image h)) ∙ inv
 
 -- one more of the same element
 pub repeated_more : (cells : List Cell) (count : ℕ) → repeated count cells ++ cells ≡ repeated (count + 1) cells

@@ -3,6 +3,7 @@ use Rattle.std.proofs.Common.{true≢false, ◌≡◌, ◌≢◌, ◌⊎◌, inl
 use Rattle.std.specs.Prelude.{find, nat_eq, nat_le}
 use Rattle.std.specs.List.{list_any}
 use Rattle.std.proofs.lemmas.Bool.Decides.{eqb_tells, leb_tells}
+use Rattle.std.proofs.lemmas.List.{take_all, take_more}
 use Rattle.c_program.specs.Syntax.{numbers_from}
 use Rattle.stepper_accesses.specs.Firsts.{first_of}
 
@@ -49,13 +50,6 @@ among_more (x ∷ listed) b n e = by (nat_eq x n) refl (among_more listed b n)
     by false h rest =
         ⊎_elim (λ k. inl (ap (λ t. t || among listed n) h ∙ k)) (λ k. inr k) (rest (sym (ap (λ t. t || among (listed ++ b ∷ []) n) h) ∙ e))
 
-take_more : (bs : List ℕ) (i b : ℕ) → i < length bs → b ≡ get_or bs i 0 → take (i + 1) bs ≡ take i bs ++ b ∷ []
-take_more [] i b h e = absurd (omega arith)
-take_more (x ∷ bs) zero b h e = ap (λ y. y ∷ []) (sym e)
-take_more (x ∷ bs) (suc i) b h e =
-    let one : suc i + 1 ≡ suc (i + 1) = omega arith in
-    ap (λ k. take k (x ∷ bs)) one ∙ ap (λ ys. x ∷ ys) (take_more bs i b (omega arith) e)
-
 module _ (p : ℕ → Bool) (count : ℕ) where
   pub least_of_none : IsLeast p count [] None
   least_of_none n e h = absurd (true≢false (sym e))
@@ -92,11 +86,11 @@ module _ (p : ℕ → Bool) (count : ℕ) where
 
   pub least_passes : (bs : List ℕ) (i b : ℕ) (found : Option ℕ) → i < length bs → b ≡ get_or bs i 0 → b < count → p b ≡ true → IsLeast p count (take i bs) found →
       IsLeast p count (take (i + 1) bs) (first_of found b)
-  least_passes bs i b found h e low passes inv = subst (λ l. IsLeast p count l (first_of found b)) (sym (take_more bs i b h e)) (taken (take i bs) b found low passes inv)
+  least_passes bs i b found h e low passes inv = subst (λ l. IsLeast p count l (first_of found b)) (sym (take_more bs i 0 h ∙ ap (λ x. take i bs ++ x ∷ []) (sym e))) (taken (take i bs) b found low passes inv)
 
   pub least_stays : (bs : List ℕ) (i b : ℕ) (found : Option ℕ) → i < length bs → b ≡ get_or bs i 0 → (b < count → p b ≡ false) → IsLeast p count (take i bs) found →
       IsLeast p count (take (i + 1) bs) found
-  least_stays bs i b found h e fails inv = subst (λ l. IsLeast p count l found) (sym (take_more bs i b h e)) (passed_over (take i bs) b found fails inv)
+  least_stays bs i b found h e fails inv = subst (λ l. IsLeast p count l found) (sym (take_more bs i 0 h ∙ ap (λ x. take i bs ++ x ∷ []) (sym e))) (passed_over (take i bs) b found fails inv)
 
   -- only what is listed may pass
   either : (listed : List ℕ) → ((n : ℕ) → among listed n ≡ false → p n ≡ false) → (n : ℕ) → (among listed n ≡ true → p n ≡ false) → p n ≡ false
@@ -113,11 +107,5 @@ module _ (p : ℕ → Bool) (count : ℕ) where
       let low = inv.below in
       sym (find_first p 0 count n (omega arith) (omega arith) inv.passes (λ m h k. either listed others m (λ e. inv.least m e k)))
 
-take_all : (bs : List ℕ) (i : ℕ) → length bs ≤ i → take i bs ≡ bs
-take_all [] zero h = refl
-take_all [] (suc i) h = refl
-take_all (b ∷ bs) zero h = absurd (omega arith)
-take_all (b ∷ bs) (suc i) h = ap (λ ys. b ∷ ys) (take_all bs i (omega arith))
-
 pub least_done : (p : ℕ → Bool) (count : ℕ) (bs : List ℕ) (i : ℕ) (found : Option ℕ) → length bs ≤ i → IsLeast p count (take i bs) found → IsLeast p count bs found
-least_done p count bs i found h inv = subst (λ l. IsLeast p count l found) (take_all bs i h) inv
+least_done p count bs i found h inv = subst (λ l. IsLeast p count l found) (take_all i bs h) inv

@@ -14,7 +14,8 @@ use Rattle.stepper_memory.specs.declared.stored.Stored.{Stored}
 use Rattle.stepper_memory.specs.Putting.{cleared}
 use Rattle.stepper_memory.specs.Views.{death_of, is_stale, aged, seen, seen_base, memory_of, IsBefore, AreBefore, AllBefore}
 use Rattle.stepper_memory.proofs.Tables.{Bits, same_base, other_base}
-use Rattle.stepper_memory.proofs.Written.{drop_next, drop_all}
+use Rattle.std.proofs.lemmas.List.{drop_all, get_or_default}
+use Rattle.stepper_memory.proofs.Written.{drop_next}
 
 -- ---- the same deaths
 
@@ -245,15 +246,10 @@ no_deaths m = fun_ext (λ other. withered_none (m other))
 
 -- ---- one after the other
 
-same_item : (xs : List ℕ) (i d e : ℕ) → i < length xs → get_or xs i d ≡ get_or xs i e
-same_item [] i d e h = absurd (omega arith)
-same_item (x ∷ xs) zero d e h = refl
-same_item (x ∷ xs) (suc i) d e h = same_item xs i d e (omega arith)
-
 pub deaths_next : (bases : List ℕ) (i base : ℕ) (goal m after : Memory) → i < length bases → base ≡ get_or bases i 0 → died (drop i bases) m ≡ goal →
     after ≡ died (base ∷ []) m → died (drop (i + 1) bases) after ≡ goal
 deaths_next bases i base goal m after h is inv e =
-    ap (died (drop (i + 1) bases)) e ∙ dies_first base (drop (i + 1) bases) m ∙ ap (λ bs. died bs m) (sym (drop_next bases i base h (is ∙ same_item bases i 0 base h))) ∙ inv
+    ap (died (drop (i + 1) bases)) e ∙ dies_first base (drop (i + 1) bases) m ∙ ap (λ bs. died bs m) (sym (drop_next bases i base h (is ∙ get_or_default bases i 0 base h))) ∙ inv
 
 pub deaths_done : (bases : List ℕ) (i : ℕ) (goal m : Memory) → length bases ≤ i → died (drop i bases) m ≡ goal → m ≡ goal
-deaths_done bases i goal m h inv = sym (no_deaths m) ∙ ap (λ bs. died bs m) (sym (drop_all bases i h)) ∙ inv
+deaths_done bases i goal m h inv = sym (no_deaths m) ∙ ap (λ bs. died bs m) (sym (drop_all i bases h)) ∙ inv

@@ -6,6 +6,7 @@ use Rattle.std.specs.List.{AllByRecursion}
 use Rattle.std.proofs.lemmas.Bool.Decides.{eqb_tells}
 use Rattle.c_memory.specs.Memories.{with_base, overwritten, cells_at}
 use Rattle.c_memory.specs.Values.{Cell}
+use Rattle.stepper_values.proofs.Cells.{map_take, map_drop}
 use Rattle.stepper_memory.specs.declared.stored.Stored.{Stored}
 use Rattle.stepper_memory.specs.Putting.{bits_at}
 use Rattle.stepper_memory.specs.Views.{seen, seen_base, memory_of, IsBefore, AreBefore, AllBefore}
@@ -121,18 +122,8 @@ pub if_ok : {A B : Type 0} {P Q : A → Type 0} (r : Result A B) → ((a : A) �
 if_ok (Ok a) f p = f a p
 if_ok (Err b) f p = tt
 
-map_take : (deaths : List ℕ) (n : ℕ) (cells : List Stored) → map (seen deaths) (take n cells) ≡ take n (map (seen deaths) cells)
-map_take deaths zero cells = refl
-map_take deaths (suc n) [] = refl
-map_take deaths (suc n) (c ∷ cells) = ap (λ cs. seen deaths c ∷ cs) (map_take deaths n cells)
-
-map_drop : (deaths : List ℕ) (n : ℕ) (cells : List Stored) → map (seen deaths) (drop n cells) ≡ drop n (map (seen deaths) cells)
-map_drop deaths zero cells = refl
-map_drop deaths (suc n) [] = refl
-map_drop deaths (suc n) (c ∷ cells) = map_drop deaths n cells
-
 -- some of the bits of a base
 pub part_at : (deaths : List ℕ) (table : List Bits) (base first count : ℕ) →
     map (seen deaths) (take count (drop first (bits_at table base))) ≡ cells_at (memory_of deaths table) base first count
 part_at deaths table base first count =
-    map_take deaths count (drop first (bits_at table base)) ∙ ap (take count) (map_drop deaths first (bits_at table base) ∙ ap (drop first) (seen_at deaths table base))
+    map_take (seen deaths) count (drop first (bits_at table base)) ∙ ap (take count) (map_drop (seen deaths) first (bits_at table base) ∙ ap (drop first) (seen_at deaths table base))

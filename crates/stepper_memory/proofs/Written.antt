@@ -2,7 +2,7 @@
 use Rattle.std.proofs.Common.{◌≡◌, ℕ, zero, suc, ◌+◌, ◌-◌, ◌<◌, ◌≤◌, false, cond, ◌||◌, List, [], ◌∷◌, ◌++◌, length, map, take, drop, replicate, get_or, refl, sym, ◌∙◌, ap, arith, append-nil}
 use Rattle.std.specs.Prelude.{nat_lt, slice_set}
 use Rattle.std.specs.List.{AllByRecursion}
-use Rattle.std.proofs.lemmas.List.{map-append}
+use Rattle.std.proofs.lemmas.List.{map-append, drop_all}
 use Rattle.std.proofs.lemmas.Bool.Decides.{nat_tests}
 use Rattle.c_memory.specs.Memories.{overwritten}
 use Rattle.c_memory.specs.Values.{Cell, Uninit, Dead, Bit}
@@ -102,12 +102,6 @@ drop_next (y ∷ ys) (suc n) x h is =
     let one : suc (n + 1) ≡ suc n + 1 = omega arith in
     drop_next ys n x (omega arith) is ∙ ap (λ k. x ∷ drop k (y ∷ ys)) one
 
-pub drop_all : {A : Type 0} (xs : List A) (n : ℕ) → length xs ≤ n → drop n xs ≡ []
-drop_all [] zero h = refl
-drop_all [] (suc n) h = refl
-drop_all (x ∷ xs) zero h = absurd (omega arith)
-drop_all (x ∷ xs) (suc n) h = drop_all xs n (omega arith)
-
 -- the rest of the bits, written over what stands there, makes the whole
 abbrev pub Writes : ℕ → List Stored → ℕ → List CodeCell → List Stored → ℕ → List CodeCell → Type 0
 Writes now old first new cells at rest =
@@ -131,7 +125,7 @@ pub writes_done : (now : ℕ) (old : List Stored) (first : ℕ) (new : List Code
     Writes now old first new cells at (drop i new) → (deaths : List ℕ) → AllByRecursion (λ d. d ≤ now) deaths →
     map (seen deaths) cells ≡ overwritten (map (seen deaths) old) first (map cell_of new)
 writes_done now old first new cells at i h inv deaths all =
-    sym (over_nothing (map (seen deaths) cells) at) ∙ ap (λ cs. over (map (seen deaths) cells) at (map cell_of cs)) (sym (drop_all new i h)) ∙ inv deaths all
+    sym (over_nothing (map (seen deaths) cells) at) ∙ ap (λ cs. over (map (seen deaths) cells) at (map cell_of cs)) (sym (drop_all i new h)) ∙ inv deaths all
     ∙ sym (over_is (map (seen deaths) old) first (map cell_of new))
 
 -- ---- bits that were not written

@@ -149,22 +149,22 @@ filled-next d x cells new i is h e =
     more c zero = refl
     more c (suc i) = ap (λ cs. c ∷ cs) (more c i)
 
-pub map_take : (n : ℕ) (cells : List CodeCell) → map cell_of (take n cells) ≡ take n (map cell_of cells)
-map_take zero cells = refl
-map_take (suc n) [] = refl
-map_take (suc n) (c ∷ cs) = ap (λ rest. cell_of c ∷ rest) (map_take n cs)
+pub map_take : {A B : Type 0} (f : A → B) (n : ℕ) (xs : List A) → map f (take n xs) ≡ take n (map f xs)
+map_take f zero xs = refl
+map_take f (suc n) [] = refl
+map_take f (suc n) (x ∷ xs) = ap (λ rest. f x ∷ rest) (map_take f n xs)
 
-pub map_drop : (n : ℕ) (cells : List CodeCell) → map cell_of (drop n cells) ≡ drop n (map cell_of cells)
-map_drop zero cells = refl
-map_drop (suc n) [] = refl
-map_drop (suc n) (c ∷ cs) = map_drop n cs
+pub map_drop : {A B : Type 0} (f : A → B) (n : ℕ) (xs : List A) → map f (drop n xs) ≡ drop n (map f xs)
+map_drop f zero xs = refl
+map_drop f (suc n) [] = refl
+map_drop f (suc n) (x ∷ xs) = map_drop f n xs
 
 pub length_map : (cells : List CodeCell) → length (map cell_of cells) ≡ length cells
 length_map [] = refl
 length_map (c ∷ cs) = ap suc (length_map cs)
 
 pub read-is : (first count : ℕ) (cells : List CodeCell) → map cell_of (take count (drop first cells)) ≡ take count (drop first (map cell_of cells))
-read-is first count cells = map_take count (drop first cells) ∙ ap (take count) (map_drop first cells)
+read-is first count cells = map_take cell_of count (drop first cells) ∙ ap (take count) (map_drop cell_of first cells)
 
 pub overwritten-is : (old new start one two made begin rest : List CodeCell) (first end : ℕ) → start ≡ [] → one ≡ start ++ begin → two ≡ one ++ new → made ≡ two ++ rest →
     begin ≡ take first old → rest ≡ drop end old → end ≡ first + length new → map cell_of made ≡ overwritten (map cell_of old) first (map cell_of new)
@@ -172,4 +172,4 @@ overwritten-is old new start one two made begin rest first end s o t m f b e =
     let whole : made ≡ (take first old ++ new) ++ drop (first + length new) old = m ∙ rw (t, o, s, f, b, e) refl in
     ap (map cell_of) whole ∙ map-append cell_of (take first old ++ new) (drop (first + length new) old)
     ∙ ap (λ cs. cs ++ map cell_of (drop (first + length new) old)) (map-append cell_of (take first old) new)
-    ∙ rw (map_take first old, map_drop (first + length new) old, length_map new) refl
+    ∙ rw (map_take cell_of first old, map_drop cell_of (first + length new) old, length_map new) refl

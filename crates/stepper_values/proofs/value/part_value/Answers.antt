@@ -9,5 +9,5 @@ returns c =
     let P : List values.Cell → Type 0 = λ cells. IfOk c.value_in.result (λ value. value_result_of value ≡ values.value_in c.args.machine c.args.scalar cells) in
     let cells = map cell_of c.args.cells.now in
     subst P
-    (ap (map cell_of) c.front.ensures.value ∙ map_take (8 * c.size_of_scalar.result) c.args.cells.now
+    (ap (map cell_of) c.front.ensures.value ∙ map_take cell_of (8 * c.size_of_scalar.result) c.args.cells.now
     ∙ ap (λ n. take (8 * n) cells) c.size_of_scalar.ensures.value) c.value_in.ensures
