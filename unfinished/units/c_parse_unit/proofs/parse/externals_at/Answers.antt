@@ -1,0 +1,23 @@
+use Rattle.std.proofs.Common.{rules, ◌<◌, length, sym, ◌∙◌, arith}
+use Rattle.grammar.proofs.Loops.{midst_on, midst_end, midst_none}
+use Rattle.c_grammar.specs.Leaves.{C}
+use Rattle.c_unit_tree.specs.Views.{external_kids}
+use Rattle.c_parse_nested.proofs.Steps.{several_started}
+use Rattle.c_parse_unit.proofs.Units.{nothing_left}
+use Rattle.c_parse_unit.proofs.parse.externals_at.Goals as goal
+
+pub reading-init : goal.reading-init
+reading-init c = several_started external_kids _ _ _ _ _ c.new-found.ensures.items
+
+pub reading-preserved : goal.reading-preserved
+reading-preserved c =
+    let less : length c.in-Some.next.now < length c.reading.rest.now = rw c.in-Some.is at c.in_ok-next_external.ensures.shorter in
+    midst_on C external_kids _ _ _ _ c.reading.invariant (search rules) (rw c.in-Some.is at c.in_ok-next_external.ensures.found) less c.in_ok-push-in-Some.ensures.items
+
+pub returns-in-None-clause-found : goal.returns-in-None-clause-found
+returns-in-None-clause-found c = midst_none C external_kids _ _ _ c.reading.invariant (search rules) (rw c.in-None.is at c.in_ok-next_external.ensures.found)
+
+pub returns-clause-found : goal.returns-clause-found
+returns-clause-found c =
+    let e = nothing_left c.reading.names.names c.reading.rest.now (search rules) in
+    rw c.from_vec.ensures (rw e at midst_end C external_kids _ _ _ c.reading.invariant (search rules))
