@@ -1,6 +1,6 @@
 -- Conversions hold what they give.
-use Rattle.std.proofs.Common.{◌≡◌, ◌⊎◌, ℕ, ◌/◌, ◌^◌, ◌==◌, ◌<◌, Bool, true, false, cond, ◌&&◌, ℤ, pos, ◌+ℤ◌, List, [], ◌∷◌, refl, sym, subst, ap, ◌∙◌, inl, inr}
-use Rattle.std.specs.Prelude.{Option, None, Some, not}
+use Rattle.std.proofs.Common.{◌≡◌, ℕ, ◌/◌, ◌^◌, ◌==◌, ◌<◌, Bool, true, false, ℤ, pos, ◌+ℤ◌, List, [], ◌∷◌, refl, sym, subst, ap, ◌∙◌, inl, inr}
+use Rattle.std.specs.Prelude.{None, Some, not}
 use Rattle.std.specs.FinSet.{contains}
 use Rattle.std.proofs.Math.Nat.{mod-eq_of_lt}
 use Rattle.std.proofs.lemmas.Bool.{and_parts, eqb-true}
@@ -12,20 +12,18 @@ use Rattle.c_base.specs.declared.operators.Rel.TheVariants as rel
 use Rattle.c_base.specs.Integers.{residue, is_signed, width_of}
 use Rattle.c_base.specs.Operators.{converted, reduced, truth_number, is_zero}
 use Rattle.c_base.proofs.Residues.{residue_below}
-use Rattle.c_memory.specs.declared.scalar.Scalar.TheVariants.{Integer, Pointer}
-use Rattle.c_memory.specs.Values.{Value, Provenance, nowhere}
+use Rattle.c_memory.specs.declared.scalar.Scalar.TheVariants.{Integer}
+use Rattle.c_memory.specs.Values.{Value, Provenance}
 use Rattle.c_memory.specs.Layouts.{Layout}
 use Rattle.c_pointers.specs.Conversions.{address_number, provenance_in, converted_to}
 use Rattle.ival_core.specs.declared.value.Ival.{Ival}
 use Rattle.ival_core.specs.Ivals.{Holds}
 use Rattle.ival_core.specs.Ranges.{run_shape}
 use Rattle.ival_core.specs.Sets.{apart}
-use Rattle.avalue_base.specs.Lists.{In}
 use Rattle.avalue_base.specs.Numbers.{bit_numbers}
 use Rattle.avalue_base.specs.Values.{Address, AVal, Separate, Mixed, bases_of}
 use Rattle.avalue_base.specs.Hues.{pointer_bits}
 use Rattle.avalue_base.specs.Meaning.{MeansAddress, MeansSome, Means}
-use Rattle.avalue_base.proofs.Means.{means_among, among_means}
 use Rattle.avalue_values.specs.Views.{numbers_in, numbers_alone, renumbered}
 use Rattle.aops.specs.Converted.{wrapped_set, truths, as_pointers, is_word, as_integers, as_truths}
 use Rattle.ival_plain.proofs.Least.{least_holds}

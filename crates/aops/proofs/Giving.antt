@@ -1,31 +1,26 @@
 -- Operators on values of integer types hold what they give.
-use Rattle.std.proofs.Common.{◌≡◌, ◌⊎◌, IsTrue, ℕ, ◌/◌, ◌≤◌, ◌^◌, ◌-◌, Bool, true, false, cond, ◌&&◌, ◌||◌, ℤ, pos, negsuc, List, [], ◌∷◌, refl, sym, subst, ap, ◌∙◌, inl, inr, arith}
-use Rattle.std.specs.Prelude.{Option, None, Some, Result, Ok, Err, int_le, int_lt, int_div, not}
+use Rattle.std.proofs.Common.{◌≡◌, ℕ, Bool, true, false, cond, ◌&&◌, ℤ, [], ◌∷◌, refl, sym, subst, ap, ◌∙◌, inl, inr}
+use Rattle.std.specs.Prelude.{None, Some, Result, Ok, Err, int_le, int_lt, not}
 use Rattle.std.specs.Ordering.{nat_cmp}
 use Rattle.std.specs.Cmp.{nat_cmp_total}
 use Rattle.std.specs.FinSet.{contains, union, contains-union, contains-empty, same_set, nat_cmp-IsAntisymmetric}
 use Rattle.std.proofs.lemmas.Bool.{or_cases}
-use Rattle.std.proofs.lemmas.Int.{ints}
-use lib.Signed.{◌<ℤ◌, ◌≤ℤ◌}
 use Rattle.c_base.specs.declared.operators.BinOp.{BinOp}
-use Rattle.c_base.specs.declared.operators.BinOp.TheVariants.{Add, Sub, Mul, Div, Rem, And, Or, Xor, Shl, Shr, Lt, Le, Gt, Ge, Eq, Ne}
+use Rattle.c_base.specs.declared.operators.BinOp.TheVariants.{Lt, Le, Gt, Ge, Eq, Ne}
 use Rattle.c_base.specs.declared.integer.IntKind.{IntKind}
 use Rattle.c_base.specs.declared.integer.Machine.{Machine}
 use Rattle.c_base.specs.declared.kind.Kind.{Kind}
-use Rattle.c_base.specs.declared.kind.Kind.TheVariants.{DivisionByZero, SignedOverflow, Shift}
 use Rattle.c_base.specs.declared.kind.KindSet.{KindSet}
-use Rattle.c_base.specs.KindSets.{allowed, no_kinds, with_kind}
-use Rattle.c_base.specs.Integers.{is_signed, width_of, fits_bits, FitsBits, FitsKind, least_of, greatest_of}
-use Rattle.c_base.specs.Operators.{applied, operated, truth_number, in_type, quotient, remainder, is_zero, is_count, OnRight}
+use Rattle.c_base.specs.KindSets.{allowed}
+use Rattle.c_base.specs.Integers.{is_signed}
+use Rattle.c_base.specs.Operators.{applied, truth_number}
 use Rattle.c_memory.specs.Values.{Value, Provenance, nowhere}
 use Rattle.c_memory.specs.Layouts.{Layout}
 use Rattle.c_memory.specs.Operations.{is_comparison, provenance_after, made_from, applied_to}
 use Rattle.ival_core.specs.declared.value.Ival.{Ival}
 use Rattle.ival_core.specs.Ivals.{Holds}
-use Rattle.ival_arith.specs.Kinds.{kind_set}
-use Rattle.avalue_base.specs.Lists.{has_base, all_among, union_of}
-use Rattle.avalue_base.specs.Numbers.{is_empty_list}
-use Rattle.avalue_base.specs.Values.{AVal, Separate, Mixed, base_of, bases_of}
+use Rattle.avalue_base.specs.Lists.{has_base, union_of}
+use Rattle.avalue_base.specs.Values.{AVal, Separate, Mixed, bases_of}
 use Rattle.avalue_base.specs.Meaning.{Means}
 use Rattle.avalue_base.specs.Order.{value_in}
 use Rattle.avalue_base.proofs.Lists.{among-refl, among-has, union_left, union_right}
@@ -65,11 +60,11 @@ plain_union = same_set nat_cmp_total nat_cmp-IsAntisymmetric (union nowhere nowh
 
 -- ---- results
 
-record Made (p : Provenance) (r : Result ℤ Kind) (z : Value) : Type 0 where
-  number : r ≡ Ok z.number
-  provenance : z.provenance ≡ p
+pub record Made (p : Provenance) (r : Result ℤ Kind) (z : Value) : Type 0 where
+  pub number : r ≡ Ok z.number
+  pub provenance : z.provenance ≡ p
 
-made_ok : (p : Provenance) (r : Result ℤ Kind) (z : Value) → made_from p r ≡ Ok z → Made p r z
+pub made_ok : (p : Provenance) (r : Result ℤ Kind) (z : Value) → made_from p r ≡ Ok z → Made p r z
 made_ok p (Ok n) z e =
     let d : record { number = n; provenance = p } ≡ z = same e in
     record { number = ap (λ (w : Value). Ok w.number) d; provenance = ap (λ (w : Value). w.provenance) (sym d) }
@@ -78,12 +73,16 @@ made_ok p (Ok n) z e =
     same h = cc
 made_ok p (Err kind) z e = cc
 
-made_err : (p : Provenance) (r : Result ℤ Kind) (kind : Kind) → made_from p r ≡ Err kind → r ≡ Err kind
+pub made_err : (p : Provenance) (r : Result ℤ Kind) (kind : Kind) → made_from p r ≡ Err kind → r ≡ Err kind
 made_err p (Ok n) kind e = cc
 made_err p (Err k) kind e = let d : k ≡ kind = same e in ap Err d
   where
     same : ◌≡◌ {A = Result Value Kind} (Err k) (Err kind) → k ≡ kind
     same h = cc
+
+pub plain_after : (t : Bool) (p q : Provenance) → p ≡ nowhere → q ≡ nowhere → cond t nowhere (union p q) ≡ nowhere
+plain_after true p q e f = refl
+plain_after false p q e f = ap (λ w. union w q) e ∙ ap (union nowhere) f ∙ plain_union
 
 pub numbers_hold : (op : BinOp) (k : IntKind) (machine : Machine) (l : Layout) (a b v : AVal) (n m s : Ival) → numbers_alone a ≡ Some n → numbers_alone b ≡ Some m → v ≡ Separate s [] →
     ((i : ℤ) → GivesOne op k machine n m (Ok i) → Holds s i) → (x y z : Value) → AreOperands op k machine l a b x y → applied_to op k machine x y ≡ Ok z → Means l v z
@@ -93,10 +92,6 @@ numbers_hold op k machine l a b v n m s e f g h x y z o t =
     let r = made_ok (provenance_after op x.provenance y.provenance) (applied op k machine x.number y.number) z t in
     let i = h z.number (record { left = x.number; right = y.number; in_left = p.1; in_right = q.1; fits_left = o.fits_left; fits_right = o.fits_right; is = r.number }) in
     subst (λ w. Means l w z) (sym g) (inl (r.provenance ∙ plain_after (is_comparison op) x.provenance y.provenance p.0 q.0, i))
-  where
-    plain_after : (t : Bool) (p q : Provenance) → p ≡ nowhere → q ≡ nowhere → cond t nowhere (union p q) ≡ nowhere
-    plain_after true p q e f = refl
-    plain_after false p q e f = ap (λ w. union w q) e ∙ ap (union nowhere) f ∙ plain_union
 
 truth_of : (op : BinOp) → is_comparison op ≡ true → (k : IntKind) (m : Machine) (x y i : ℤ) → applied op k m x y ≡ Ok i → (b : Bool) × (truth_number b ≡ i)
 truth_of Lt e k m x y i h = (int_lt x y, same h)

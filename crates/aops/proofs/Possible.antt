@@ -1,5 +1,5 @@
 -- The kinds that operators on numbers of a type may have.
-use Rattle.std.proofs.Common.{◌≡◌, ◌⊎◌, ℕ, ◌/◌, ◌≤◌, Bool, true, false, cond, ◌&&◌, ℤ, pos, negsuc, refl, sym, subst, ap, ◌∙◌, inl, inr, arith}
+use Rattle.std.proofs.Common.{◌≡◌, ℕ, ◌/◌, ◌≤◌, Bool, true, false, cond, ◌&&◌, ℤ, pos, negsuc, refl, sym, subst, arith}
 use Rattle.std.specs.Prelude.{Result, Ok, Err, int_le, int_div, int_rem, unsigned_abs, ◌*ℤ◌, ◌+ℤ◌, ◌-ℤ◌, ◌^◌}
 use Rattle.std.proofs.Math.Nat.{div-le_self}
 use Rattle.std.proofs.lemmas.Bool.{and_from}
@@ -13,7 +13,7 @@ use Rattle.c_base.specs.declared.kind.Kind.{Kind}
 use Rattle.c_base.specs.declared.kind.Kind.TheVariants.{DivisionByZero, SignedOverflow, Shift}
 use Rattle.c_base.specs.KindSets.{allowed, no_kinds, with_kind}
 use Rattle.c_base.specs.Integers.{is_signed, width_of, fits_bits, FitsBits, FitsKind, least_of, greatest_of, residue}
-use Rattle.c_base.specs.Operators.{applied, operated, in_type, is_zero, is_count, floor, OnRight}
+use Rattle.c_base.specs.Operators.{applied, in_type, is_zero, is_count, floor, OnRight}
 use Rattle.ival_core.proofs.Orders.{true_le}
 use Rattle.ival_arith.specs.Kinds.{kind_set}
 use Rattle.aops.specs.Integers.{possible_kinds}

@@ -1,6 +1,6 @@
 -- What operators on sets of numbers answer.
 use Rattle.std.proofs.Common.{◌≡◌, ◌↔◌, IsTrue, Bool, true, false, ℤ, pos, ◌/◌, List, [], ◌∷◌, refl, sym, subst, ap, ◌∙◌, inl, inr, arith}
-use Rattle.std.specs.Prelude.{Option, None, Some, Result, Ok, Err, not}
+use Rattle.std.specs.Prelude.{Some, Result, Ok, Err}
 use Rattle.std.specs.List.{list_any}
 use Rattle.std.proofs.lemmas.Int.{ints}
 use Rattle.c_base.specs.declared.operators.BinOp.{BinOp}
@@ -25,7 +25,6 @@ use Rattle.ival_bits.specs.Bitwise.{bitwise_value}
 use Rattle.ival_bits.specs.Promises.{IsBitwise, IsShift, GivesShifted}
 use Rattle.ival_bits.specs.Shifts.{shift_value, shift_kinds}
 use Rattle.ival_plain.proofs.Least.{least_holds}
-use Rattle.avalue_base.specs.Lists.{In}
 use Rattle.avalue_base.specs.Numbers.{list_of}
 use Rattle.avalue_base.specs.Meets.{least_of, set_of}
 use Rattle.avalue_base.proofs.Lists.{In-any, any-In}
@@ -36,7 +35,7 @@ use Rattle.aops.specs.Numbers.{is_truth, may_be, truth_numbers, rel_of, truth_se
 
 -- ---- truths
 
-few_same : (v : Ival) (ns : List ℤ) → v.shape ≡ Few (record { items = ns }) → v ≡ least_of ns
+pub few_same : (v : Ival) (ns : List ℤ) → v.shape ≡ Few (record { items = ns }) → v ≡ least_of ns
 unfolding set_of list_of
 few_same v ns e = set_same v (Few (record { items = ns })) e
 
@@ -66,7 +65,7 @@ truth_is true b e = e
 truth_is false true e = cc
 truth_is false false e = refl
 
-is_then : (truth b : Bool) → is_truth truth b ≡ true → b ≡ truth
+pub is_then : (truth b : Bool) → is_truth truth b ≡ true → b ≡ truth
 is_then true b e = e
 is_then false true e = cc
 is_then false false e = refl
@@ -93,7 +92,7 @@ related_is r a b v s t c d e = e ∙ ap (λ z. truth_set z t) (compared r true a
 pub zero_number : IsNumber (pos 0)
 zero_number = record { least = omega (arith, ints); greatest = omega (arith, ints) }
 
-one_number : IsNumber (pos 1)
+pub one_number : IsNumber (pos 1)
 one_number = record { least = omega (arith, ints); greatest = omega (arith, ints) }
 
 true_among : (b : Bool) → Among (truth_numbers true b) (pos 1)
@@ -196,7 +195,7 @@ from_shift op i k m a b r g = absurd i
 
 -- ---- relations
 
-applied_relation : (op : BinOp) (r : Rel) → rel_of op ≡ Some r → (k : IntKind) (m : Machine) (x y : ℤ) → applied op k m x y ≡ Ok (truth_number (relates r x y))
+pub applied_relation : (op : BinOp) (r : Rel) → rel_of op ≡ Some r → (k : IntKind) (m : Machine) (x y : ℤ) → applied op k m x y ≡ Ok (truth_number (relates r x y))
 applied_relation Lt r e k m x y = let d : rel.Lt ≡ r = cc in ap (λ z. Ok (truth_number (relates z x y))) d
 applied_relation Le r e k m x y = let d : rel.Le ≡ r = cc in ap (λ z. Ok (truth_number (relates z x y))) d
 applied_relation Gt r e k m x y = let d : rel.Gt ≡ r = cc in ap (λ z. Ok (truth_number (relates z x y))) d

@@ -1,7 +1,7 @@
 -- Conversions of values, as plain functions (C11 6.3.1.2, 6.3.1.3, 6.3.2.3).
-use Rattle.std.specs.Prelude.{ℕ, ◌==◌, Bool, true, false, cond, not, ◌&&◌, List, [], ◌∷◌}
+use Rattle.std.specs.Prelude.{ℕ, ◌==◌, Bool, false, cond, not, ◌&&◌, [], ◌∷◌}
 use Rattle.c_base.specs.declared.integer.IntKind.{IntKind}
-use Rattle.c_base.specs.declared.integer.IntKind.TheVariants.{Bool as bool_kind, Char, SChar, UChar, Short, UShort, Int, UInt, Long, ULong, LLong, ULLong}
+use Rattle.c_base.specs.declared.integer.IntKind.TheVariants.{Bool as bool_kind}
 use Rattle.c_base.specs.declared.integer.Machine.{Machine}
 use Rattle.c_base.specs.declared.operators.Rel.TheVariants as rel
 use Rattle.c_base.specs.Integers.{is_signed, width_of}
@@ -10,7 +10,7 @@ use Rattle.c_memory.specs.declared.scalar.Scalar.TheVariants.{Integer, Pointer}
 use Rattle.ival_core.specs.declared.value.Ival.{Ival}
 use Rattle.ival_bits.specs.Wraps.{wrapped}
 use Rattle.avalue_base.specs.Numbers.{bit_numbers}
-use Rattle.avalue_base.specs.Values.{Address, AVal, Separate, Mixed, base_of, bases_of}
+use Rattle.avalue_base.specs.Values.{AVal, Separate, Mixed, bases_of}
 use Rattle.avalue_base.specs.Hues.{pointer_bits}
 use Rattle.avalue_base.specs.Meets.{least_of, set_of}
 use Rattle.aops.specs.Numbers.{related}

@@ -1,5 +1,5 @@
 -- C's operators on values of integer types, as plain functions.
-use Rattle.std.specs.Prelude.{ℕ, Bool, true, false, cond, List, [], ◌∷◌, Err}
+use Rattle.std.specs.Prelude.{ℕ, Bool, true, false, cond, List, [], Err}
 use Rattle.c_base.specs.declared.operators.BinOp.{BinOp}
 use Rattle.c_base.specs.declared.operators.BinOp.TheVariants.{Add, Sub, Mul, Div, Rem, And, Or, Xor, Shl, Shr, Lt, Le, Gt, Ge, Eq, Ne}
 use Rattle.c_base.specs.declared.integer.IntKind.{IntKind}

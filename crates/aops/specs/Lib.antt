@@ -2,3 +2,4 @@ pub mod Promises
 pub mod Numbers
 pub mod Integers
 pub mod Converted
+pub mod Soles

@@ -1,13 +1,15 @@
 //! Conversions of values.
-ghost use Rattle.std.specs.Prelude.{◌≡◌, ◌<◌, ◌≤◌, ℤ, IsTrue, IsFalse, IfOk};
+ghost use Rattle.std.specs.Prelude.{◌≡◌, ◌↔◌, ◌<◌, ◌≤◌, ℤ, true, IsTrue, IsFalse, IfOk};
 ghost use Rattle.c_base.specs.Operators.{reduced};
 ghost use Rattle.c_memory.specs.Layouts.{Layout};
 ghost use Rattle.c_memory.specs.Values.{Value};
 ghost use Rattle.c_pointers.specs.Conversions.{converted_to};
-ghost use Rattle.ival_core.specs.Ivals.{Holds};
+ghost use Rattle.ival_core.specs.Ivals.{Holds, IsOnly};
 ghost use Rattle.avalue_base.specs.Meaning.{Means};
-ghost use Rattle.avalue_base.specs.Numbers.{bit_numbers};
+ghost use Rattle.avalue_base.specs.Numbers.{bit_numbers, is_empty};
 ghost use Rattle.avalue_base.specs.Hues.{pointer_bits};
+ghost use Rattle.avalue_base.specs.Singles.{is_single_value};
+ghost use Rattle.aops.specs.Soles.{IsAlone, is_single_number, keeps_addresses};
 ghost use Rattle.aops.specs.Converted.{as_integers, as_pointers, as_truths, converted_value, is_word, truths, wrapped_set};
 
 use crate::numbers::related;
@@ -36,6 +38,8 @@ pub fn wrapped(signed: bool, bits: u32, a: &Ival) -> Ival
     requires { (0 < bits) × (bits ≤ 64) }
     ensures value { result ≡ wrapped_set signed bits a.now }
     ensures holds { (n : ℤ) → Holds a.now n → Holds result (reduced signed bits n) }
+    ensures single { (n : ℤ) → IsOnly a.now n → IsOnly result (reduced signed bits n) }
+    ensures none { is_empty a.now.shape ≡ true → is_empty result.shape ≡ true }
 {
     wrap(bits, signed, a)
 }
@@ -52,6 +56,7 @@ fn as_pointers(alloc: Global, m: Machine, a: &AVal) -> Mem<AVal>
     ensures value { IfOk result (λ v. v ≡ as_pointers m a.now) }
     ensures holds { IfOk result (λ v. (l : Layout) (x : Value) → l.machine ≡ m → Means l a.now x →
         Means l v (converted_to Scalar.Pointer m x)) }
+    ensures alone { IfOk result (λ v. (l : Layout) → is_single_value a.now ≡ true → IsAlone l v) }
 {
     match a.numbers() {
         None => a.duplicate(alloc),
@@ -74,6 +79,8 @@ fn as_integers(alloc: Global, format: Format, a: &AVal) -> Mem<AVal>
     ensures value { IfOk result (λ v. v ≡ as_integers format.kind format.machine a.now) }
     ensures holds { IfOk result (λ v. (l : Layout) (x : Value) → l.machine ≡ format.machine → Means l a.now x →
         Means l v (converted_to (Scalar.Integer format.kind) format.machine x)) }
+    ensures alone { IfOk result (λ v. (l : Layout) → is_single_value a.now ≡ true →
+        keeps_addresses (Scalar.Integer format.kind) format.machine a.now ≡ true → IsAlone l v) }
 {
     match a.numbers_alone() {
         Some(numbers) => Ok(AVal::number(wrapped(format.signed, format.width, numbers))),
@@ -97,6 +104,7 @@ fn as_truths(a: &AVal) -> AVal
     ensures value { result ≡ as_truths a.now }
     ensures holds { (l : Layout) (m : Machine) (x : Value) → Means l a.now x →
         Means l result (converted_to (Scalar.Integer IntKind.Bool) m x) }
+    ensures alone { (l : Layout) → is_single_number a.now ≡ true → IsAlone l result }
 {
     match a.numbers_alone() {
         Some(numbers) => AVal::number(truths(numbers)),
@@ -130,6 +138,8 @@ pub fn converted(alloc: Global, to: Scalar, m: Machine, a: &AVal) -> Mem<AVal>
     ensures value { IfOk result (λ v. v ≡ converted_value to m a.now) }
     ensures holds { IfOk result (λ v. (l : Layout) (x : Value) → l.machine ≡ m → Means l a.now x →
         Means l v (converted_to to m x)) }
+    ensures sole { IfOk result (λ v. (l : Layout) (x z : Value) → l.machine ≡ m → is_single_value a.now ≡ true →
+        keeps_addresses to m a.now ≡ true → Means l a.now x → Means l v z ↔ (z ≡ converted_to to m x)) }
 {
     match to {
         Scalar::Pointer => as_pointers(alloc, m, a),

@@ -1,5 +1,5 @@
 //! Operators on values of integer types.
-ghost use Rattle.std.specs.Prelude.{◌≡◌, ◌&&◌, false, cond, IsTrue, IfOk, Ok, Err};
+ghost use Rattle.std.specs.Prelude.{◌≡◌, ◌&&◌, true, false, cond, IsTrue, IfOk, Ok, Err};
 ghost use Rattle.c_base.specs.Integers.{is_signed};
 ghost use Rattle.c_base.specs.KindSets.{allowed, no_kinds, with_kind};
 ghost use Rattle.c_memory.specs.Layouts.{Layout};
@@ -11,6 +11,7 @@ ghost use Rattle.avalue_base.specs.Values.{bases_of};
 ghost use Rattle.ival_arith.specs.Kinds.{kind_set};
 ghost use Rattle.avalue_base.specs.Meaning.{Means};
 ghost use Rattle.aops.specs.Integers.{AreOperands, Cause, blended, integer_value, integer_value_kinds, possible_kinds};
+ghost use Rattle.aops.specs.Soles.{is_single_number, IsSole, NarrowValue};
 
 use crate::numbers::{on_numbers, truth_set};
 use avalue_values::{AVal, Mem};
@@ -144,6 +145,9 @@ pub fn on_integers(
     ensures kinds { IfOk result (λ c. (l : Layout) (x y : Value) (kind : Kind) → AreOperands op k m l a.now b.now x y →
         applied_to op k m x y ≡ Err kind → IsTrue (allowed c.kinds kind)) }
     ensures cause { IfOk result (λ c. (kind : Kind) → IsTrue (allowed c.kinds kind) → Cause op k m a.now b.now kind) }
+    ensures narrow { IfOk result (λ c. NarrowValue op k m a.now b.now c.value) }
+    ensures sole { IfOk result (λ c. (l : Layout) (x y : Value) → is_single_number a.now ≡ true → is_single_number b.now ≡ true →
+        AreOperands op k m l a.now b.now x y → IsSole l (applied_to op k m x y) c.value c.kinds) }
 {
     match a.numbers_alone() {
         None => on_addresses(alloc, op, k, m, a, b),

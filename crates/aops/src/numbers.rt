@@ -3,7 +3,7 @@ ghost use Rattle.std.specs.Prelude.{◌≡◌, ◌↔◌, ℤ, true, false, IsTr
 ghost use Rattle.c_base.specs.KindSets.{allowed, no_kinds};
 ghost use Rattle.ival_core.specs.Ivals.{Holds};
 ghost use Rattle.aops.specs.Numbers.{IsSort, integer_kinds, integer_set, related, truth_set};
-ghost use Rattle.aops.specs.Promises.{GivesOne};
+ghost use Rattle.aops.specs.Promises.{GivesOne, IsNarrow};
 
 use c_base::integer::{IntKind, Machine};
 use c_base::kind::{Kind, KindSet};
@@ -85,6 +85,7 @@ pub(crate) fn on_numbers(op: BinOp, k: IntKind, m: Machine, a: &Ival, b: &Ival) 
     ensures holds { (n : ℤ) → GivesOne op k m a.now b.now (Ok n) → Holds result.value n }
     ensures kinds { (kind : Kind) → IsTrue (allowed result.kinds kind)
         ↔ GivesOne op k m a.now b.now (Err kind) }
+    ensures narrow { IsNarrow op k m a.now b.now result.value }
 {
     match sort_of(op) {
         Sort::Arithmetic => binary(op, k, m, a, b),

@@ -8,6 +8,7 @@ use Rattle.ival_core.specs.Ivals.{Holds}
 use Rattle.avalue_base.specs.Meaning.{Means}
 use Rattle.aops.specs.Converted.{wrapped_set}
 use Rattle.aops.proofs.Converting.{pointers_mix, mix_holds, pointers_is, pointers_hold}
+use Rattle.aops.proofs.Alone.{renumbered_alone, mix_single}
 use Rattle.aops.proofs.convert.as_pointers.Goals as goal
 
 pub returns-in-None-clause-value : goal.returns-in-None-clause-value
@@ -30,3 +31,14 @@ returns-in-Some-clause-holds c =
     subst (λ z. Means l z (converted_to Pointer c.args.m x)) (sym e)
     (pointers_hold l c.args.m h c.args.a.now c.in-Some.numbers.now c.wrapped.result (sym c.numbers.ensures ∙ ap option_copied c.in-Some.is)
     (subst (λ k. (n : ℤ) → Holds c.in-Some.numbers.now n → Holds c.wrapped.result (reduced false k n)) c.pointer_bits.ensures.value c.wrapped.ensures.holds) x i)) c.renumbered.ensures
+
+pub returns-in-None-clause-alone : goal.returns-in-None-clause-alone
+returns-in-None-clause-alone c =
+    IfOk-weaker c.duplicate.result _ _ (λ v e. λ l s. absurd (mix_single c.args.a.now (sym c.numbers.ensures ∙ ap option_copied c.in-None.is) s)) c.duplicate.ensures
+
+pub returns-in-Some-clause-alone : goal.returns-in-Some-clause-alone
+returns-in-Some-clause-alone c =
+    IfOk-weaker c.renumbered.result _ _
+    (λ v e. λ l s.
+    renumbered_alone l c.args.a.now v c.in-Some.numbers.now c.wrapped.result (sym c.numbers.ensures ∙ ap option_copied c.in-Some.is) e
+    (record { single = λ n o. (reduced false c.pointer_bits.result n, c.wrapped.ensures.single n o); none = c.wrapped.ensures.none }) s) c.renumbered.ensures

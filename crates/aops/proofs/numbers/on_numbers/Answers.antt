@@ -1,6 +1,7 @@
 use Rattle.std.proofs.Common.{subst}
 use Rattle.aops.specs.Numbers.{IsSort}
 use Rattle.aops.proofs.Sorts.{arithmetic_set, arithmetic_kinds, to_gives, from_gives, bitwise_set, bitwise_kinds, to_bits, from_bits, shift_set, shifted_kinds, to_shift, from_shift, relation_set, relation_kinds, relation_held, relation_defined, none_allowed}
+use Rattle.aops.proofs.Narrow.{narrow_arithmetic, narrow_bitwise, narrow_shift, narrow_relation}
 use Rattle.aops.proofs.numbers.on_numbers.Goals as goal
 
 pub returns-in-Arithmetic-clause-value : goal.returns-in-Arithmetic-clause-value
@@ -62,3 +63,16 @@ returns-in-Relation-clause-kinds c kind = (
   (λ h. absurd (none_allowed c.relation.result.kinds kind c.relation.ensures.kind_set h)),
   (λ g. absurd (relation_defined c.args.op c.in-Relation.rel (subst (IsSort c.args.op) c.in-Relation.is c.sort_of.ensures) c.args.k c.args.m c.args.a.now c.args.b.now kind g)),
 )
+
+pub returns-in-Arithmetic-clause-narrow : goal.returns-in-Arithmetic-clause-narrow
+returns-in-Arithmetic-clause-narrow c =
+    narrow_arithmetic c.args.op (subst (IsSort c.args.op) c.in-Arithmetic.is c.sort_of.ensures) c.args.k c.args.m c.args.a.now c.args.b.now c.binary.result.value c.binary.ensures.exact c.binary.ensures.least_sum c.binary.ensures.least_difference
+
+pub returns-in-Bitwise-clause-narrow : goal.returns-in-Bitwise-clause-narrow
+returns-in-Bitwise-clause-narrow c = narrow_bitwise c.args.op (subst (IsSort c.args.op) c.in-Bitwise.is c.sort_of.ensures) c.args.k c.args.m c.args.a.now c.args.b.now c.bitwise.result.value c.bitwise.ensures.exact
+
+pub returns-in-Shift-clause-narrow : goal.returns-in-Shift-clause-narrow
+returns-in-Shift-clause-narrow c = narrow_shift c.args.op (subst (IsSort c.args.op) c.in-Shift.is c.sort_of.ensures) c.args.k c.args.m c.args.a.now c.args.b.now c.shift.result.value c.shift.ensures.exact
+
+pub returns-in-Relation-clause-narrow : goal.returns-in-Relation-clause-narrow
+returns-in-Relation-clause-narrow c = narrow_relation c.args.op c.in-Relation.rel (subst (IsSort c.args.op) c.in-Relation.is c.sort_of.ensures) c.args.k c.args.m c.args.a.now c.args.b.now c.relation.result.value c.relation.ensures.value
