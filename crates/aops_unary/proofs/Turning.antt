@@ -135,7 +135,7 @@ unmade op k m x kind h = at (applied_unary op k m x.number) refl h
     at (Err found) e f = let same : found ≡ kind = cc in e ∙ ap Err same
     at (Ok n) e f = cc
 
-plain_behind : (op : UnOp) (p : Provenance) → p ≡ nowhere → provenance_behind op p ≡ nowhere
+pub plain_behind : (op : UnOp) (p : Provenance) → p ≡ nowhere → provenance_behind op p ≡ nowhere
 plain_behind Neg p e = e
 plain_behind Not p e = refl
 plain_behind Compl p e = e

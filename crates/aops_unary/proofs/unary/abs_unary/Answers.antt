@@ -2,6 +2,7 @@ use Rattle.std.proofs.Common.{sym, ◌∙◌, ap}
 use Rattle.std.specs.Option.{option_copied}
 use Rattle.std.proofs.lemmas.Result.{IfOk-weaker}
 use Rattle.aops_unary.proofs.Turning.{numbers_hold, numbers_undefined, numbers_cause, any_cause, possible}
+use Rattle.aops_unary.proofs.Narrowing.{sole_one}
 use Rattle.aops_unary.proofs.unary.abs_unary.Goals as goal
 
 pub returns-in-None-clause-holds : goal.returns-in-None-clause-holds
@@ -25,3 +26,8 @@ returns-in-Some-clause-kinds c l x kind i f t =
 pub returns-in-Some-clause-cause : goal.returns-in-Some-clause-cause
 returns-in-Some-clause-cause c kind h =
     numbers_cause c.args.op c.args.k c.args.m c.args.a.now c.in-Some.numbers.now kind (sym c.numbers_alone.ensures.value ∙ ap option_copied c.in-Some.is) ((c.on_numbers-answer.ensures.kinds kind).0 h)
+
+pub returns-in-Some-clause-sole : goal.returns-in-Some-clause-sole
+returns-in-Some-clause-sole c l x s i f =
+    sole_one c.args.op c.args.k c.args.m l c.args.a.now c.number.result c.in-Some.numbers.now c.on_numbers-answer.result.value c.on_numbers-answer.result.kinds (sym c.numbers_alone.ensures.value ∙ ap option_copied c.in-Some.is) c.number.ensures c.on_numbers-answer.ensures.narrow
+    c.on_numbers-answer.ensures.holds c.on_numbers-answer.ensures.kinds x s i f
