@@ -1,21 +1,22 @@
 -- Images hold what a function makes of two numbers, and exact calls answer them.
-use Rattle.std.proofs.Common.{◌≡◌, ◌⊎◌, Bool, true, false, cond, ℤ, pos, List, [], ◌∷◌, ◌++◌, map, refl, sym, subst, ap, inl, inr}
+use Rattle.std.proofs.Common.{◌≡◌, ◌⊎◌, Bool, true, false, cond, ℤ, pos, List, [], ◌∷◌, ◌++◌, map, refl, sym, subst, ap, ◌∙◌, inl, inr, arith}
 use Rattle.std.specs.Prelude.{Option, None, Some, IfSome, IfNone, int_le, neg_ℤ, ◌^◌}
 use Rattle.std.specs.List.{list_all}
 use Rattle.std.proofs.lemmas.Bool.{and_parts, and_from}
+use Rattle.ival_core.specs.declared.value.Shape.TheVariants.{Few}
 use Rattle.ival_core.specs.declared.value.Ival.{Ival}
-use Rattle.ival_core.specs.Ivals.{Holds}
-use Rattle.ival_core.specs.Sets.{IsNumber, IsLeast}
+use Rattle.ival_core.specs.Ivals.{Holds, IsOnly}
+use Rattle.ival_core.specs.Sets.{IsNumber, IsValid, IsLeast}
 use Rattle.ival_core.proofs.Canonical.{Includes-antisymm}
 use Rattle.ival_core.proofs.Orders.{le_true, true_le}
 use Rattle.ival_arith.specs.Promises.{Outcome, Leaves, Stays}
 use Rattle.ival_plain.specs.Least.{is_number}
 use Rattle.ival_plain.proofs.Least.{least_holds, least_least}
 use Rattle.avalue_base.specs.Lists.{In}
-use Rattle.avalue_base.specs.Numbers.{list_of}
+use Rattle.avalue_base.specs.Numbers.{is_empty, no_numbers, list_of}
 use Rattle.avalue_base.specs.Meets.{least_of}
 use Rattle.avalue_base.proofs.Lists.{In-all, all-In, In-map, map-In}
-use Rattle.avalue_base.proofs.Sets.{Among-In, In-Among, held_listed, listed_held}
+use Rattle.avalue_base.proofs.Sets.{Among-In, In-Among, held_listed, listed_held, empty_none, none_empty, none_held}
 use Rattle.aops_pointers.specs.Images.{crossed, image}
 
 In-left : {X : Type 0} (xs ys : List X) (x : X) → In xs x → In (xs ++ ys) x
@@ -97,3 +98,47 @@ module _ (f : ℤ → ℤ → ℤ) where
       rw t (ap Some (Includes-antisymm v (least_of (all a b))
       (λ z h. least_least (all a b) v (λ k i. l.holds k (outcome a b k (Among-In (all a b) k i))) z h)
       (λ z h. l.least (least_of (all a b)).shape (least_of (all a b)).valid (λ k o. least_holds (all a b) k (In-Among (all a b) k (subst (In (all a b)) (sym o.is) (listed a b o.left o.right o.in_left o.in_right))) (subst IsNumber (sym o.is) (s o.left o.right o.in_left o.in_right))) z h)))
+
+  -- the one result of two single numbers
+  pub record IsOneImage (a b : Ival) (n : ℤ) : Type 0 where
+    pub set : Ival
+    pub is : image f a b ≡ Some set
+    pub only : IsOnly set n
+
+  pub image_single : (a b : Ival) (x y : ℤ) → IsOnly a x → IsOnly b y → IsNumber (f x y) → IsOneImage a b (f x y)
+  unfolding image least_of all
+  image_single a b x y p q n =
+      let t : list_all is_number (all a b) ≡ true = In-all is_number (all a b) (λ z i. number_is z (subst IsNumber (sym (same z (outcome a b z i))) n)) in
+      record {
+        set = least_of (all a b);
+        is = rw t refl;
+        only = λ z. (
+          (λ h. elim (least_least (all a b) one (λ k i. inl (same k (outcome a b k (Among-In (all a b) k i)))) z h) [ inl e ↦ e | inr i ↦ absurd i ]),
+          (λ e. subst (Holds (least_of (all a b))) (sym e) (least_holds (all a b) (f x y) (In-Among (all a b) (f x y) (listed a b x y ((p x).1 refl) ((q y).1 refl))) n)),
+        );
+      }
+    where
+      valid : IsValid (Few (record { items = f x y ∷ [] }))
+      valid = record { small = omega arith; ascending = (tt, tt); numbers = (n, tt) }
+
+      one : Ival
+      one = record { shape = Few (record { items = f x y ∷ [] }); valid = valid }
+
+      same : (z : ℤ) → Outcome f a b z → z ≡ f x y
+      same z o = o.is ∙ ap (λ t. f t o.right) ((p o.left).0 o.in_left) ∙ ap (f x) ((q o.right).0 o.in_right)
+
+  -- no result without numbers
+  pub record IsNoImage (a b : Ival) : Type 0 where
+    pub set : Ival
+    pub is : image f a b ≡ Some set
+    pub none : is_empty set.shape ≡ true
+
+  pub image_none : (a b : Ival) → is_empty a.shape ≡ true → IsNoImage a b
+  unfolding image least_of all
+  image_none a b e =
+      let t : list_all is_number (all a b) ≡ true = In-all is_number (all a b) (λ z i. absurd (empty_none a (outcome a b z i).left e (outcome a b z i).in_left)) in
+      record {
+        set = least_of (all a b);
+        is = rw t refl;
+        none = none_empty (least_of (all a b)) (λ n h. none_held n (least_least (all a b) no_numbers (λ k i. let o = outcome a b k (Among-In (all a b) k i) in absurd (empty_none a o.left e o.in_left)) n h));
+      }

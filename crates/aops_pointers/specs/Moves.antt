@@ -1,5 +1,5 @@
 -- Pointers moved by integers, as plain functions (C11 6.5.6).
-use Rattle.std.specs.Prelude.{ℕ, Bool, true, false, cond, List, [], ◌∷◌, map, ℤ, pos, ◌+ℤ◌, ◌-ℤ◌, Option, None, Some}
+use Rattle.std.specs.Prelude.{ℕ, ◌^◌, Bool, true, false, cond, List, [], ◌∷◌, map, ℤ, pos, neg_ℤ, ◌+ℤ◌, ◌-ℤ◌, ◌≤ℤ◌, Option, None, Some}
 use Rattle.std.specs.List.{list_all}
 use Rattle.c_base.specs.declared.integer.Machine.{Machine}
 use Rattle.c_memory.specs.Values.{Value}
@@ -8,6 +8,8 @@ use Rattle.c_pointers.specs.Pointers.{moved, moved_back}
 use Rattle.ival_core.specs.declared.value.Shape.{Shape}
 use Rattle.ival_core.specs.declared.value.Shape.TheVariants.{Few}
 use Rattle.ival_core.specs.declared.value.Ival.{Ival}
+use Rattle.ival_core.specs.Ivals.{Holds}
+use Rattle.ival_core.specs.Sets.{IsNumber}
 use Rattle.ival_core.specs.Views.{bounds_of}
 use Rattle.ival_arith.specs.declared.terms.Term.TheVariants.{Product}
 use Rattle.ival_arith.specs.Terms.{exact_term}
@@ -87,3 +89,14 @@ abbrev pub moved_value : Bool → Machine → ℕ → AVal → AVal → AVal
 moved_value back machine size v (Separate counts []) = shifted_by back machine v (in_bytes size counts)
 moved_value back machine size v (Separate counts (a ∷ addresses)) = Mixed (union_of (bases_of v) (bases_of (Separate counts (a ∷ addresses))))
 moved_value back machine size v (Mixed bases) = Mixed (union_of (bases_of v) bases)
+
+-- an offset that is kept
+pub record IsNear (n : ℤ) : Type 0 where
+  pub least : neg_ℤ (pos (2 ^ 62)) ≤ℤ n
+  pub greatest : n ≤ℤ pos (2 ^ 62)
+
+-- moved by k bytes, an address keeps its offset, and a number is one that a set may hold
+abbrev pub KeepsNear : Bool → ℤ → AVal → Type 0
+KeepsNear back k (Separate ns []) = (n : ℤ) → Holds ns n → IsNumber (summed back n k)
+KeepsNear back k (Separate ns (a ∷ addresses)) = (o : ℤ) → Holds a.offsets o → IsNear (summed back o k)
+KeepsNear back k (Mixed bases) = Unit {0}

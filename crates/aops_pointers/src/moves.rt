@@ -1,15 +1,18 @@
 //! Pointers moved by integers.
-ghost use Rattle.std.specs.Prelude.{◌≡◌, ◌≢◌, ℤ, pos, ◌*ℤ◌, true, false, IsTrue, IfOk, IfSome, map};
+ghost use Rattle.std.specs.Prelude.{◌≡◌, ◌≢◌, ◌↔◌, ℤ, pos, ◌*ℤ◌, true, false, IsTrue, IfOk, IfSome, IfNone, Some, map};
 ghost use Rattle.std.specs.List.{list_all};
 ghost use Rattle.c_memory.specs.Layouts.{Layout};
 ghost use Rattle.c_memory.specs.Values.{Value};
-ghost use Rattle.ival_core.specs.Ivals.{Holds};
+ghost use Rattle.ival_core.specs.Ivals.{Holds, IsOnly};
+ghost use Rattle.ival_core.specs.Sets.{IsNumber};
 ghost use Rattle.avalue_base.specs.Meaning.{Means};
 ghost use Rattle.avalue_base.specs.Meets.{lies_near};
 ghost use Rattle.avalue_base.specs.Numbers.{is_empty, is_empty_list, words};
 ghost use Rattle.avalue_base.specs.Values.{bases_of};
+ghost use Rattle.avalue_base.specs.Singles.{is_single_value};
+ghost use Rattle.aops.specs.Soles.{IsAlone, is_single_number};
 ghost use Rattle.c_pointers.specs.Conversions.{address_number};
-ghost use Rattle.aops_pointers.specs.Moves.{at_number, in_bytes, is_near_sum, moved_address, moved_by, moved_numbers, moved_value, of_bases, or_words, shifted, shifted_by, stays_near, sum_of, summed};
+ghost use Rattle.aops_pointers.specs.Moves.{KeepsNear, at_number, in_bytes, is_near_sum, moved_address, moved_by, moved_numbers, moved_value, of_bases, or_words, shifted, shifted_by, stays_near, sum_of, summed};
 
 use aops::{pointer_bits, wrapped};
 use avalue_parts::{Address, is_near, is_none};
@@ -24,6 +27,8 @@ use std::alloc::Global;
 fn in_bytes(size: u64, counts: &Ival) -> Option<Ival>
     ensures value { result ≡ in_bytes size counts.now }
     ensures holds { IfSome result (λ v. (n : ℤ) → Holds counts.now n → Holds v (n *ℤ pos size)) }
+    ensures single { (n : ℤ) → IsOnly counts.now n → IfSome result (λ v. IsOnly v (n *ℤ pos size)) }
+    ensures leaves { IfNone result ((n : ℤ) → IsOnly counts.now n → IsNumber (n *ℤ pos size) → ⊥) }
 {
     exact_mul(counts, &Ival::single(size as i128))
 }
@@ -96,6 +101,8 @@ fn moved_addresses(
 fn moved_numbers(back: bool, m: Machine, numbers: &Ival, steps: &Ival) -> Ival
     ensures holds { (n k : ℤ) → Holds numbers.now n → Holds steps.now k → Holds result (address_number m (summed back n k)) }
     ensures value { result ≡ moved_numbers m (sum_of back numbers.now steps.now) }
+    ensures single { (n k : ℤ) → IsOnly numbers.now n → IsOnly steps.now k → IsNumber (summed back n k) → IsOnly result (address_number m (summed back n k)) }
+    ensures none { is_empty numbers.now.shape ≡ true → is_empty result.shape ≡ true }
 {
     match sum_of(back, numbers, steps) {
         None => words(),
@@ -120,6 +127,7 @@ fn shifted(alloc: Global, back: bool, m: Machine, a: &AVal, steps: &Ival) -> Mem
     ensures value { IfOk result (λ v. v ≡ shifted back m steps.now a.now) }
     ensures holds { IfOk result (λ v. (l : Layout) (x : Value) (k : ℤ) → l.machine ≡ m → Means l a.now x → Holds steps.now k
         → Means l v (at_number l.machine (summed back x.number k) x)) }
+    ensures alone { IfOk result (λ v. (l : Layout) (k : ℤ) → is_single_value a.now ≡ true → IsOnly steps.now k → KeepsNear back k a.now → IsAlone l v) }
 {
     match a.numbers() {
         None => a.duplicate(alloc),
@@ -138,6 +146,8 @@ fn shifted_by(alloc: Global, back: bool, m: Machine, a: &AVal, steps: &Option<Iv
     ensures value { IfOk result (λ v. v ≡ shifted_by back m a.now steps.now) }
     ensures holds { IfOk result (λ v. (l : Layout) (x : Value) (k : ℤ) → l.machine ≡ m → Means l a.now x → IfSome steps.now (λ s. Holds s k)
         → Means l v (at_number l.machine (summed back x.number k) x)) }
+    ensures alone { IfOk result (λ v. (l : Layout) (s : Ival) (k : ℤ) → steps.now ≡ Some s → is_single_value a.now ≡ true → IsOnly s k →
+        KeepsNear back k a.now → IsAlone l v) }
 {
     match steps {
         None => of_bases(alloc, a),
@@ -151,11 +161,14 @@ fn shifted_by(alloc: Global, back: bool, m: Machine, a: &AVal, steps: &Option<Iv
 }
 
 /// The pointers moved forwards, or back, by counts of elements of so many bytes (C11 6.5.6p8). Where an address may leave its base by more than 2^62
-/// bytes, only the bases are told.
+/// bytes, only the bases are told. Of a single pointer and a single count there is the one pointer alone.
 pub fn moved(alloc: Global, back: bool, m: Machine, size: u64, a: &AVal, counts: &AVal) -> Mem<AVal>
     ensures value { IfOk result (λ v. v ≡ moved_value back m size a.now counts.now) }
     ensures holds { IfOk result (λ v. (l : Layout) (x y : Value) → l.machine ≡ m → Means l a.now x → Means l counts.now y
         → Means l v (moved_by back m size x y)) }
+    ensures sole { IfOk result (λ v. (l : Layout) (x y z : Value) → l.machine ≡ m → is_single_value a.now ≡ true → is_single_number counts.now ≡ true →
+        Means l a.now x → Means l counts.now y → IsNumber (y.number *ℤ pos size) → KeepsNear back (y.number *ℤ pos size) a.now
+        → Means l v z ↔ (z ≡ moved_by back m size x y)) }
 {
     match counts.numbers_alone() {
         None => a.blend(alloc, counts),
