@@ -1,14 +1,16 @@
 //! The map, and its parts.
-ghost use Rattle.std.specs.Prelude.{◌≡◌, ℕ, suc, ◌+◌, ◌*◌, ◌<◌, ◌≤◌, ◌^◌, IfOk, replicate, [], ◌∷◌};
+ghost use Rattle.std.specs.Prelude.{◌≡◌, ℕ, suc, ◌+◌, ◌*◌, ◌<◌, ◌≤◌, ◌^◌, IfOk, List, replicate, [], ◌∷◌};
 ghost use Rattle.cell_laws.specs.Elements.{width, AllFine};
 ghost use Rattle.cell_laws.specs.Order.{included};
 ghost use Rattle.cell_laws.specs.Join.{joined, joined_cell};
 ghost use Rattle.cell_laws.specs.Access.{copied, pasted, repeated, put, stored, loaded, loaded_all, weakened, IsSize, AllWithin};
+ghost use Rattle.cell_runs.specs.declared.runs.Run.{Run as PlainRun};
 ghost use Rattle.cell_runs.specs.Runs.{elements, AllSome, AreApart};
 ghost use Rattle.run_merges.specs.Widened.{widened_cell};
 ghost use Rattle.run_orders.specs.Singles.{all_single};
 ghost use Rattle.run_orders.specs.Deaths.{left_all};
 ghost use Rattle.run_slots.specs.Slots.{slots_weakened};
+ghost use Rattle.run_slots.specs.Repeats.{told_once};
 ghost use Rattle.offmap.specs.Maps.{AreRanges, LoadsSteps};
 
 use crate::access::{glue_runs, push_filled};
@@ -221,12 +223,14 @@ impl<C: Cells> OffMap<C> {
         })
     }
 
-    /// The join of the cells at all of the steps. The work is that of the ranges, not that of the steps, where these find the same in a range.
+    /// The join of the cells at those of the steps at which no part comes again. The work is that of the ranges, not that of the steps, where these find the same in a range.
     pub fn load_steps(&self, alloc: Global, steps: Steps, bits: u64) -> Mem<C>
         requires size { IsSize bits }
         requires step { 0 < steps.step }
         requires inside { steps.first + steps.more * steps.step + bits ≤ width self.now }
-        ensures { IfOk result (λ c. LoadsSteps C.ops self.now bits steps.first steps.step (suc steps.more) c) }
+        ensures value { IfOk result (λ c. (rs : List (PlainRun C)) → AreRanges self.now rs →
+            c ≡ loaded_all C.ops self.now (told_once rs bits steps.first steps.step (suc steps.more)) bits) }
+        ensures all { IfOk result (λ c. LoadsSteps C.ops self.now bits steps.first steps.step (suc steps.more) c) }
     {
         let offsets = distinct_offsets(alloc, &self.runs, steps, bits)?;
         self.load_all(alloc, &offsets, bits)

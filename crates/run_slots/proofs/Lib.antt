@@ -3,3 +3,5 @@ pub mod Again
 pub mod Weakening
 pub mod Widths
 pub mod Representing
+pub mod Stretching
+pub mod Telling

@@ -4,6 +4,7 @@ ghost use Rattle.cell_laws.specs.Elements.{width};
 ghost use Rattle.cell_runs.specs.Runs.{elements};
 ghost use Rattle.run_places.specs.Spots.{AreRuns};
 ghost use Rattle.run_slots.specs.Offsets.{steps_from, Represent};
+ghost use Rattle.run_slots.specs.Repeats.{told_once};
 
 use crate::stretch::stretch_at;
 use crate::walk::walk;
@@ -22,7 +23,7 @@ pub struct Steps {
 }
 
 /// Adds `count` numbers, each `step` more than the one before.
-fn push_steps(alloc: Global, first: u64, step: u64, count: u64, out: &mut Vec<u64>) -> Mem<()>
+pub fn push_steps(alloc: Global, first: u64, step: u64, count: u64, out: &mut Vec<u64>) -> Mem<()>
     requires small { first + (count - 1) * step < 2 ^ 64 }
     ensures { OnOk result (out.new.items ≡ out.old.items ++ steps_from first step count) }
 {
@@ -46,7 +47,8 @@ pub fn distinct_offsets<C: Cells>(
     requires some { 0 < bits }
     requires step { 0 < steps.step }
     requires inside { steps.first + steps.more * steps.step + bits ≤ width (elements runs.now) }
-    ensures { IfOk result (λ offsets. Represent C.ops (elements runs.now) bits steps.first steps.step (suc steps.more) offsets.items) }
+    ensures value { IfOk result (λ offsets. offsets.items ≡ told_once runs.now bits steps.first steps.step (suc steps.more)) }
+    ensures all { IfOk result (λ offsets. Represent C.ops (elements runs.now) bits steps.first steps.step (suc steps.more) offsets.items) }
 {
     let mut offsets = Vec::new(alloc);
     let reach = bits.max(steps.step);

@@ -31,13 +31,13 @@ weaken_each-requires-clause-spot g c = each_at g.C.Cells.ops c.args.runs.now (el
 pub weaken_each-requires-clause-enough : goal.weaken_each-requires-clause-enough
 weaken_each-requires-clause-enough g c =
     each_fits g.C.Cells.ops c.args.runs.now (elements c.args.put.now) c.args.slots (bits_before c.args.runs.now c.args.spot) c.args.count c.loop-left.left c.stretch_at-next.result.size
-    c.loop-left.at c.args.out.now.items c.loop-left.out.items (least_chunk c.stretch_at-next.result.size c.stretch_at-next.result.repeats c.loop-left.left c.stretch_at-next.ensures.again c.stretch_at-next.ensures.most) c.requires.enough c.loop-left.invariant
+    c.loop-left.at c.args.out.now.items c.loop-left.out.items (least_chunk c.stretch_at-next.result.size c.stretch_at-next.result.repeats c.loop-left.left c.stretch_at-next.ensures.again.again c.stretch_at-next.ensures.again.most) c.requires.enough c.loop-left.invariant
 
 pub overflow_mul-next-in-loop-left : goal.overflow_mul-next-in-loop-left
 overflow_mul-next-in-loop-left g c =
     let s = c.requires.runs.small in
     let f = each_fits g.C.Cells.ops c.args.runs.now (elements c.args.put.now) c.args.slots (bits_before c.args.runs.now c.args.spot) c.args.count c.loop-left.left (c.stretch_at-next.result.size * c.stretch_at-next.result.repeats)
-    c.loop-left.at c.args.out.now.items c.loop-left.out.items c.stretch_at-next.ensures.most c.requires.enough c.loop-left.invariant in
+    c.loop-left.at c.args.out.now.items c.loop-left.out.items c.stretch_at-next.ensures.again.most c.requires.enough c.loop-left.invariant in
     omega arith
 
 pub walk-at-requires-clause-spot : goal.walk-at-requires-clause-spot
@@ -46,13 +46,13 @@ walk-at-requires-clause-spot g c = each_at g.C.Cells.ops c.args.runs.now (elemen
 pub walk-at-requires-clause-enough : goal.walk-at-requires-clause-enough
 walk-at-requires-clause-enough g c =
     each_fits g.C.Cells.ops c.args.runs.now (elements c.args.put.now) c.args.slots (bits_before c.args.runs.now c.args.spot) c.args.count c.loop-left.left (c.stretch_at-next.result.size * c.stretch_at-next.result.repeats)
-    c.loop-left.at c.args.out.now.items c.loop-left.out.items c.stretch_at-next.ensures.most c.requires.enough c.loop-left.invariant
+    c.loop-left.at c.args.out.now.items c.loop-left.out.items c.stretch_at-next.ensures.again.most c.requires.enough c.loop-left.invariant
 
 pub loop-left-preserved : goal.loop-left-preserved
 loop-left-preserved g c =
-    each_step g.C.Cells.ops c.args.runs.now (elements c.args.put.now) c.args.slots (bits_before c.args.runs.now c.args.spot) c.args.count c.loop-left.left (c.stretch_at-next.result.size * c.stretch_at-next.result.repeats) c.loop-left.at c.walk-at.result c.args.out.now.items c.loop-left.out.items c.push_times.new.out.items c.stretch_at-next.ensures.most
+    each_step g.C.Cells.ops c.args.runs.now (elements c.args.put.now) c.args.slots (bits_before c.args.runs.now c.args.spot) c.args.count c.loop-left.left (c.stretch_at-next.result.size * c.stretch_at-next.result.repeats) c.loop-left.at c.walk-at.result c.args.out.now.items c.loop-left.out.items c.push_times.new.out.items c.stretch_at-next.ensures.again.most
     (stretch_made g.C.Cells.ops c.args.runs.now c.weaken_each.new.out.items c.deref.result.now (elements c.args.put.now) c.args.slots (bits_before c.args.runs.now c.loop-left.at) c.loop-left.left
-    c.stretch_at-next.result.size c.stretch_at-next.result.repeats c.new-made.result.items c.loop-left.out.items c.push_times.new.out.items c.stretch_at-next.ensures c.new-made.ensures.items c.deref.ensures.value
+    c.stretch_at-next.result.size c.stretch_at-next.result.repeats c.new-made.result.items c.loop-left.out.items c.push_times.new.out.items c.stretch_at-next.ensures.again c.new-made.ensures.items c.deref.ensures.value
     c.in_ok-weaken_each.ensures c.in_ok-push_times.ensures)
     c.walk-at.ensures c.loop-left.invariant
 

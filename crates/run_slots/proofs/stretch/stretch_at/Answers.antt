@@ -1,8 +1,12 @@
-use Rattle.std.proofs.Common.{◌*◌, ◌-◌, arith, refl}
-use Rattle.cell_runs.proofs.Taking.{fine_at, small_at}
+use Rattle.std.proofs.Common.{◌*◌, ◌-◌, ◌∙◌, ap, sym, subst, arith, refl}
+use Rattle.cell_laws.specs.Elements.{Element}
+use Rattle.cell_runs.specs.Runs.{elements}
+use Rattle.cell_runs.proofs.Taking.{fine_at, small_at, bits_at}
+use Rattle.run_slots.specs.declared.stretch.Stretch.{Stretch}
 use Rattle.run_slots.specs.Walks.{bits_before}
+use Rattle.run_slots.specs.Weakens.{ComeAgain}
 use Rattle.run_slots.proofs.Walking.{has_run}
-use Rattle.run_slots.proofs.Again.{wide_fits, again_many}
+use Rattle.run_slots.proofs.Stretching.{stretch_is, stretch_comes}
 use Rattle.run_slots.proofs.stretch.stretch_at.Goals as goal
 
 pub bounds-runs-spot : goal.bounds-runs-spot
@@ -14,28 +18,26 @@ overflow_mul-rest g c =
     let h = small_at c.args.runs.now c.args.spot.index c.index-runs-spot.result i c.index-runs-spot.is c.requires.runs.small in
     omega arith
 
-pub period-size-requires-clause-small : goal.period-size-requires-clause-small
-period-size-requires-clause-small g c =
+pub stretch_in-requires-clause-some : goal.stretch_in-requires-clause-some
+stretch_in-requires-clause-some g c =
     let i = has_run c.args.runs.now (bits_before c.args.runs.now c.args.spot) c.args.spot c.requires.spot c.requires.inside in
-    let h = small_at c.args.runs.now c.args.spot.index c.index-runs-spot.result i c.index-runs-spot.is c.requires.runs.small in
-    let f = fine_at g.C.Cells.fine c.args.runs.now c.args.spot.index c.index-runs-spot.result i c.index-runs-spot.is c.requires.runs.some c.requires.runs.fine in
-    let b = g.met.C.Cells.fine_laws.few_bits c.index-runs-spot.result.bits c.index-runs-spot.result.cell f in
-    let w = wide_fits c.index-runs-spot.result.bits c.args.wide (c.index-runs-spot.result.bits * c.index-runs-spot.result.count - c.args.spot.skip) b (omega arith) in
-    omega arith
+    bits_at c.args.runs.now c.args.spot.index c.index-runs-spot.result i c.index-runs-spot.is c.requires.runs.some
 
-pub overflow_mul-size : goal.overflow_mul-size
-overflow_mul-size g c =
+pub stretch_in-requires-clause-few : goal.stretch_in-requires-clause-few
+stretch_in-requires-clause-few g c =
     let i = has_run c.args.runs.now (bits_before c.args.runs.now c.args.spot) c.args.spot c.requires.spot c.requires.inside in
-    let h = small_at c.args.runs.now c.args.spot.index c.index-runs-spot.result i c.index-runs-spot.is c.requires.runs.small in
     let f = fine_at g.C.Cells.fine c.args.runs.now c.args.spot.index c.index-runs-spot.result i c.index-runs-spot.is c.requires.runs.some c.requires.runs.fine in
-    let b = g.met.C.Cells.fine_laws.few_bits c.index-runs-spot.result.bits c.index-runs-spot.result.cell f in
-    let p = c.period-size.ensures.few in
-    let w = wide_fits c.period-size.result c.args.wide (c.index-runs-spot.result.bits * c.index-runs-spot.result.count - c.args.spot.skip) (omega arith) (omega arith) in
-    omega arith
+    g.met.C.Cells.fine_laws.few_bits c.index-runs-spot.result.bits c.index-runs-spot.result.cell f
 
-pub returns : goal.returns
-returns g c =
+pub returns-clause-value : goal.returns-clause-value
+returns-clause-value g c =
     let i = has_run c.args.runs.now (bits_before c.args.runs.now c.args.spot) c.args.spot c.requires.spot c.requires.inside in
-    again_many g.C.Cells.ops c.args.runs.now (bits_before c.args.runs.now c.args.spot) c.args.wide c.args.reach c.args.left c.period-size.result
-    (c.index-runs-spot.result.bits * c.index-runs-spot.result.count - c.args.spot.skip) (c.args.reach - c.args.wide) c.min-repeats.result c.args.spot c.index-runs-spot.result c.requires.runs.some c.requires.spot i
-    c.index-runs-spot.is c.period-size.ensures refl c.requires.far refl (omega arith) c.min-repeats.ensures c.if-repeats-eq0.false
+    c.stretch_in.ensures
+    ∙ stretch_is c.args.runs.now (bits_before c.args.runs.now c.args.spot) c.args.wide c.args.reach c.args.left c.args.spot c.index-runs-spot.result c.requires.spot i c.index-runs-spot.is
+
+pub returns-clause-again : goal.returns-clause-again
+returns-clause-again g c =
+    let at = bits_before c.args.runs.now c.args.spot in
+    let i = has_run c.args.runs.now at c.args.spot c.requires.spot c.requires.inside in
+    subst (λ (s : Stretch). ComeAgain g.C.Cells.ops (elements c.args.runs.now) at c.args.wide c.args.reach c.args.left s.size s.repeats) (sym c.stretch_in.ensures)
+    (stretch_comes g.C.Cells.ops c.args.runs.now at c.args.wide c.args.reach c.args.left _ c.args.spot c.index-runs-spot.result c.requires.runs.some c.requires.spot i c.index-runs-spot.is refl c.requires.far c.requires.left)
