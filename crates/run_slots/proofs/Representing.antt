@@ -72,7 +72,7 @@ within-append : (k w : ℕ) (xs ys : List ℕ) → AllWithin k w xs → AllWithi
 within-append k w [] ys a b = b
 within-append k w (x ∷ xs) ys a b = (a.0, within-append k w xs ys a.1 b)
 
-within_steps : (n k w at step : ℕ) → at + (n - 1) * step + k ≤ w → AllWithin k w (steps_from at step n)
+pub within_steps : (n k w at step : ℕ) → at + (n - 1) * step + k ≤ w → AllWithin k w (steps_from at step n)
 unfolding steps_from
 within_steps zero k w at step h = tt
 within_steps (suc zero) k w at step h = (omega arith, tt)

@@ -1,0 +1,7 @@
+//! Loads and weak stores at all numbers of a set, and what they mean.
+#![tactic(auto)]
+
+pub mod accesses;
+mod offsets;
+
+pub use accesses::{load, store_weak};
