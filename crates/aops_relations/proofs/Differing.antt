@@ -79,10 +79,10 @@ small_quotient m d (negsuc n) s = let l = div-le_self (suc n) d in at (suc n / d
     at : (q : ℕ) → q ≤ suc n → neg_ℤ (pos m) ≤ℤ negsuc n → Small m (neg_ℤ (pos q))
     at q l h = record { low = omega (arith, ints); high = omega (arith, ints) }
 
-one_valid : (size : ℕ) → size < 2 ^ 64 → IsValid (Few (record { items = pos size ∷ [] }))
+pub one_valid : (size : ℕ) → size < 2 ^ 64 → IsValid (Few (record { items = pos size ∷ [] }))
 one_valid size h = record { small = omega arith; ascending = (tt, tt); numbers = (record { least = omega (arith, ints); greatest = omega (arith, ints) }, tt) }
 
-one : (size : ℕ) → size < 2 ^ 64 → Ival
+unfoldable pub one : (size : ℕ) → size < 2 ^ 64 → Ival
 one size h = record { shape = Few (record { items = pos size ∷ [] }); valid = one_valid size h }
 
 divided_holds : (size : ℕ) → size < 2 ^ 64 → (d v : Ival) → option_set (exact_term Quotient d.shape (Few (record { items = pos size ∷ [] }))) ≡ Some v → (n : ℤ) → Holds d n → Holds v (int_div n (pos size))

@@ -1,3 +1,4 @@
 pub mod Spots
 pub mod Comparing
 pub mod Differing
+pub mod Tight

@@ -1,3 +1,4 @@
 pub mod Placed
 pub mod Comparisons
 pub mod Differences
+pub mod Soles

@@ -1,5 +1,5 @@
 //! Comparisons of pointers.
-ghost use Rattle.std.specs.Prelude.{◌≡◌, cond, IsTrue, Ok, Err, []};
+ghost use Rattle.std.specs.Prelude.{◌≡◌, true, cond, IsTrue, Ok, Err, []};
 ghost use Rattle.c_base.specs.declared.kind.Kind.{Kind};
 ghost use Rattle.c_memory.specs.Layouts.{Layout};
 ghost use Rattle.c_memory.specs.Values.{Value};
@@ -9,7 +9,9 @@ ghost use Rattle.avalue_base.specs.Meets.{meet_of};
 ghost use Rattle.avalue_base.specs.Numbers.{is_empty, words};
 ghost use Rattle.avalue_base.specs.Values.{Separate};
 ghost use Rattle.avalue_values.specs.Views.{numbers_alone};
+ghost use Rattle.avalue_base.specs.Singles.{is_single_value};
 ghost use Rattle.aops_relations.specs.Placed.{ArePointers};
+ghost use Rattle.aops_relations.specs.Soles.{IsSoleVerdict, has_near_offsets};
 ghost use Rattle.aops_relations.specs.Comparisons.{by_numbers, is_equality, judged, nothing, one_base, op_of, tested, two_addresses, two_bases, two_numbers, unknown, untied, with_null, with_numbers, zero_alone};
 
 use crate::places::{all_good, all_inside, all_within, one_address, some_inside};
@@ -202,6 +204,8 @@ pub fn compared<S: Sizes>(rel: Rel, sizes: &S, a: &AVal, b: &AVal) -> Verdict
         comparison (op_of rel) l x y ≡ Ok z → Means l (Separate result.set []) z }
     ensures sure { IsTrue result.sure → (l : Layout) (x y : Value) (kind : Kind) → ArePointers (S.size_of sizes.now) l a.now b.now x y →
         comparison (op_of rel) l x y ≡ Err kind → ⊥ }
+    ensures sole { (l : Layout) (x y : Value) → is_single_value a.now ≡ true → is_single_value b.now ≡ true → has_near_offsets a.now ≡ true →
+        has_near_offsets b.now ≡ true → ArePointers (S.size_of sizes.now) l a.now b.now x y → IsSoleVerdict l (comparison (op_of rel) l x y) result }
 {
     judged(rel, sizes, a, b)
 }

@@ -1,5 +1,5 @@
 //! Differences of pointers.
-ghost use Rattle.std.specs.Prelude.{◌≡◌, ◌-ℤ◌, false, IsTrue, Ok, Err, [], Some};
+ghost use Rattle.std.specs.Prelude.{◌≡◌, ◌<◌, ◌-ℤ◌, true, false, IsTrue, Ok, Err, [], Some};
 ghost use Rattle.c_base.specs.declared.kind.Kind.{Kind};
 ghost use Rattle.c_memory.specs.Layouts.{Layout};
 ghost use Rattle.c_memory.specs.Values.{Value};
@@ -9,7 +9,9 @@ ghost use Rattle.avalue_base.specs.Values.{Separate};
 ghost use Rattle.avalue_values.specs.Views.{numbers_alone};
 ghost use Rattle.aops_pointers.specs.Images.{image};
 ghost use Rattle.aops_relations.specs.Differences.{differed, far_numbers, of_addresses, of_numbers, quotient_of, quotients, undefined, within_one};
+ghost use Rattle.avalue_base.specs.Singles.{is_single_value};
 ghost use Rattle.aops_relations.specs.Placed.{ArePointers, one_address};
+ghost use Rattle.aops_relations.specs.Soles.{IsSoleVerdict, has_near_offsets};
 
 use crate::comparisons::{Verdict, has_no_word, set_if};
 use crate::places::{all_inside, one_address, some_inside};
@@ -132,6 +134,8 @@ pub fn differed<S: Sizes>(size: u64, sizes: &S, a: &AVal, b: &AVal) -> Verdict
         difference l size x y ≡ Ok z → Means l (Separate result.set []) z }
     ensures sure { IsTrue result.sure → (l : Layout) (x y : Value) (kind : Kind) → ArePointers (S.size_of sizes.now) l a.now b.now x y →
         difference l size x y ≡ Err kind → ⊥ }
+    ensures sole { (l : Layout) (x y : Value) → 0 < size → is_single_value a.now ≡ true → is_single_value b.now ≡ true → has_near_offsets a.now ≡ true →
+        has_near_offsets b.now ≡ true → ArePointers (S.size_of sizes.now) l a.now b.now x y → IsSoleVerdict l (difference l size x y) result }
 {
     of_parts(size, sizes, a, b)
 }
