@@ -1,5 +1,5 @@
 //! Operators with two operands.
-ghost use Rattle.std.specs.Prelude.{◌≡◌, ◌⊎◌, true, false, cond, IsTrue, IfOk, Ok, Err, []};
+ghost use Rattle.std.specs.Prelude.{◌≡◌, ◌⊎◌, ◌<◌, true, false, cond, IsTrue, IfOk, Ok, Err, []};
 ghost use Rattle.c_base.specs.declared.kind.Kind.{Kind as PlainKind};
 ghost use Rattle.c_base.specs.KindSets.{allowed, no_kinds, with_kind};
 ghost use Rattle.c_memory.specs.Layouts.{Layout};
@@ -13,6 +13,8 @@ ghost use Rattle.aops_pointers.specs.Moves.{moved_by, moved_value};
 ghost use Rattle.aops_relations.specs.Comparisons.{judged};
 ghost use Rattle.aops_relations.specs.Differences.{differed};
 ghost use Rattle.aops_relations.specs.Placed.{ArePointers};
+ghost use Rattle.aops.specs.Soles.{IsSole};
+ghost use Rattle.aops_by_type.specs.Uses.{AreSingle, AreUsed, IsMoved, NarrowTyped, PointerCause, TypedCause};
 ghost use Rattle.aops_by_type.specs.Typed.{AreTyped, IsOperator, compared_by, is_difference, kinds_of, result_of, value_kinds, value_of};
 
 use aops::{Computed, on_integers};
@@ -113,6 +115,8 @@ fn on_count(
     ensures kind_set { IfOk result (λ c. c.kinds ≡ no_kinds) }
     ensures holds { IfOk result (λ c. (l : Layout) (x y : Value) → l.machine ≡ m → Means l a.now x → Means l counts.now y →
         Means l c.value (moved_by back m size x y)) }
+    ensures sole { IfOk result (λ c. (l : Layout) (x y : Value) → l.machine ≡ m → IsMoved back size a.now counts.now y → Means l a.now x →
+        Means l counts.now y → IsSole l (Ok (moved_by back m size x y)) c.value c.kinds) }
 {
     Ok(Computed {
         value: moved(alloc, back, m, size, a, counts)?,
@@ -127,6 +131,8 @@ fn on_difference<S: Sizes>(size: u64, sizes: &S, a: &AVal, b: &AVal) -> Computed
         difference l size x y ≡ Ok z → Means l result.value z }
     ensures kinds { (l : Layout) (x y : Value) (kind : PlainKind) → ArePointers (S.size_of sizes.now) l a.now b.now x y →
         difference l size x y ≡ Err kind → IsTrue (allowed result.kinds kind) }
+    ensures sole { (l : Layout) (x y : Value) → 0 < size → AreSingle a.now b.now → ArePointers (S.size_of sizes.now) l a.now b.now x y →
+        IsSole l (difference l size x y) result.value result.kinds }
 {
     computed(differed(size, sizes, a, b), Kind::DifferingBlocks)
 }
@@ -139,6 +145,8 @@ fn on_comparison<S: Sizes>(op: BinOp, sizes: &S, a: &AVal, b: &AVal) -> Computed
         comparison op l x y ≡ Ok z → Means l result.value z }
     ensures kinds { (l : Layout) (x y : Value) (kind : PlainKind) → ArePointers (S.size_of sizes.now) l a.now b.now x y →
         comparison op l x y ≡ Err kind → IsTrue (allowed result.kinds kind) }
+    ensures sole { (l : Layout) (x y : Value) → AreSingle a.now b.now → ArePointers (S.size_of sizes.now) l a.now b.now x y →
+        IsSole l (comparison op l x y) result.value result.kinds }
 {
     match rel_of(op) {
         Some(rel) => computed(compared(rel, sizes, a, b), Kind::PtrComparison),
@@ -162,6 +170,10 @@ fn on_pointers<S: Sizes>(
         result_of op (Operand.Pointer size) (Operand.Pointer other) m l x y ≡ Ok z → Means l result.value z }
     ensures kinds { (l : Layout) (x y : Value) (kind : PlainKind) → ArePointers (S.size_of sizes.now) l a.now b.now x y →
         result_of op (Operand.Pointer size) (Operand.Pointer other) m l x y ≡ Err kind → IsTrue (allowed result.kinds kind) }
+    ensures cause { (kind : PlainKind) → IsTrue (allowed result.kinds kind) → PointerCause op size other m a.now b.now kind }
+    ensures sole { (l : Layout) (x y : Value) → AreUsed op (Operand.Pointer size) (Operand.Pointer other) a.now b.now x y →
+        ArePointers (S.size_of sizes.now) l a.now b.now x y →
+        IsSole l (result_of op (Operand.Pointer size) (Operand.Pointer other) m l x y) result.value result.kinds }
 {
     if is_difference(op) {
         return on_difference(size, sizes, a, b);
@@ -169,7 +181,8 @@ fn on_pointers<S: Sizes>(
     on_comparison(op, sizes, a, b)
 }
 
-/// An operator on values of two types that C has it for. Of a comparison or difference of pointers, the types' elements are the same.
+/// An operator on values of two types that C has it for. Of a comparison or difference of pointers, the types' elements are the same. Of
+/// single values, used as C means it, there is the one result or the one kind alone.
 pub fn abs_binary<S: Sizes>(
     alloc: Global,
     op: BinOp,
@@ -187,6 +200,10 @@ pub fn abs_binary<S: Sizes>(
         result_of op left right m l x y ≡ Ok z → Means l c.value z) }
     ensures kinds { IfOk result (λ c. (l : Layout) (x y : Value) (kind : PlainKind) → AreTyped op left right m (S.size_of sizes.now) l a.now b.now x y →
         result_of op left right m l x y ≡ Err kind → IsTrue (allowed c.kinds kind)) }
+    ensures cause { IfOk result (λ c. (kind : PlainKind) → IsTrue (allowed c.kinds kind) → TypedCause op left right m a.now b.now kind) }
+    ensures narrow { IfOk result (λ c. NarrowTyped op left right m a.now b.now c.value) }
+    ensures sole { IfOk result (λ c. (l : Layout) (x y : Value) → AreUsed op left right a.now b.now x y →
+        AreTyped op left right m (S.size_of sizes.now) l a.now b.now x y → IsSole l (result_of op left right m l x y) c.value c.kinds) }
 {
     match left {
         Operand::Integer(kind) => match right {

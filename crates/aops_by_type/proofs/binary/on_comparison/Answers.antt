@@ -3,7 +3,10 @@ use Rattle.std.specs.Prelude.{Ok, Err}
 use Rattle.c_base.specs.declared.kind.Kind.TheVariants.{PtrComparison}
 use Rattle.c_pointers.specs.Pointers.{comparison}
 use Rattle.avalue_base.specs.Meaning.{Means}
+use Rattle.aops_relations.specs.Comparisons.{op_of}
 use Rattle.aops_by_type.proofs.Typing.{unsure, comparison_kind, same_op, some_rel}
+use Rattle.aops.specs.Soles.{IsSole}
+use Rattle.aops_by_type.proofs.Using.{verdict_sole, only_comparison}
 use Rattle.aops_by_type.proofs.binary.on_comparison.Goals as goal
 
 pub returns-in-Some-clause-holds : goal.returns-in-Some-clause-holds
@@ -27,3 +30,13 @@ returns-in-None-clause-holds g c = absurd (some_rel c.args.op c.requires (sym c.
 
 pub returns-in-None-clause-kinds : goal.returns-in-None-clause-kinds
 returns-in-None-clause-kinds g c = absurd (some_rel c.args.op c.requires (sym c.rel_of.ensures ∙ c.in-None.is))
+
+pub returns-in-Some-clause-sole : goal.returns-in-Some-clause-sole
+returns-in-Some-clause-sole g c l x y s o =
+    let e = same_op c.args.op c.in-Some.rel (sym c.rel_of.ensures ∙ c.in-Some.is) in
+    subst (λ p. IsSole l (comparison p l x y) c.computed.result.value c.computed.result.kinds) e
+    (verdict_sole l (comparison (op_of c.in-Some.rel) l x y) c.compared.result PtrComparison c.computed.result.value c.computed.result.kinds c.computed.ensures.value c.computed.ensures.kind_set (λ k h. comparison_kind (op_of c.in-Some.rel) l x y k h) only_comparison refl
+    (c.compared.ensures.sole l x y s.left s.right s.left_near s.right_near o))
+
+pub returns-in-None-clause-sole : goal.returns-in-None-clause-sole
+returns-in-None-clause-sole g c = absurd (some_rel c.args.op c.requires (sym c.rel_of.ensures ∙ c.in-None.is))
