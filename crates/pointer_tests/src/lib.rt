@@ -4,6 +4,10 @@
 #[cfg(test)]
 mod growth;
 #[cfg(test)]
+mod ones;
+#[cfg(test)]
 mod operators;
 #[cfg(test)]
 mod places;
+#[cfg(test)]
+mod tables;

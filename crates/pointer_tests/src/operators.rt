@@ -13,15 +13,15 @@ const LONG: Operand = Operand::Integer(IntKind::Long);
 
 const POINTER: Operand = Operand::Pointer(4);
 
-fn plus(alloc: Global, a: &AVal, b: &AVal) -> Mem<Computed> {
+pub(crate) fn plus(alloc: Global, a: &AVal, b: &AVal) -> Mem<Computed> {
     abs_binary(alloc, BinOp::Add, POINTER, LONG, Machine::Lp64, &Two, a, b)
 }
 
-fn minus(alloc: Global, a: &AVal, b: &AVal) -> Mem<Computed> {
+pub(crate) fn minus(alloc: Global, a: &AVal, b: &AVal) -> Mem<Computed> {
     abs_binary(alloc, BinOp::Sub, POINTER, LONG, Machine::Lp64, &Two, a, b)
 }
 
-fn distance(alloc: Global, a: &AVal, b: &AVal) -> Mem<Computed> {
+pub(crate) fn distance(alloc: Global, a: &AVal, b: &AVal) -> Mem<Computed> {
     abs_binary(
         alloc,
         BinOp::Sub,
@@ -34,7 +34,7 @@ fn distance(alloc: Global, a: &AVal, b: &AVal) -> Mem<Computed> {
     )
 }
 
-fn less(alloc: Global, a: &AVal, b: &AVal) -> Mem<Computed> {
+pub(crate) fn less(alloc: Global, a: &AVal, b: &AVal) -> Mem<Computed> {
     abs_binary(
         alloc,
         BinOp::Lt,
@@ -47,7 +47,7 @@ fn less(alloc: Global, a: &AVal, b: &AVal) -> Mem<Computed> {
     )
 }
 
-fn equal(alloc: Global, a: &AVal, b: &AVal) -> Mem<Computed> {
+pub(crate) fn equal(alloc: Global, a: &AVal, b: &AVal) -> Mem<Computed> {
     abs_binary(
         alloc,
         BinOp::Eq,
@@ -60,13 +60,13 @@ fn equal(alloc: Global, a: &AVal, b: &AVal) -> Mem<Computed> {
     )
 }
 
-fn is_defined(c: &Computed, n: i32) -> bool {
+pub(crate) fn is_defined(c: &Computed, n: i32) -> bool {
     is_number(&c.value, n)
         && !c.kinds.allows(Kind::PtrComparison)
         && !c.kinds.allows(Kind::DifferingBlocks)
 }
 
-fn is_undefined(c: &Computed, kind: Kind) -> bool {
+pub(crate) fn is_undefined(c: &Computed, kind: Kind) -> bool {
     c.value.is_nothing() && c.kinds.allows(kind)
 }
 
