@@ -1,8 +1,9 @@
 -- Numbers of sets whose accesses lie within a map.
 use Rattle.std.proofs.Common.{◌≡◌, ℕ, zero, suc, ◌+◌, ◌-◌, ◌*◌, ◌/◌, ◌%◌, ◌<◌, ◌≤◌, ◌^◌, List, [], ◌∷◌, map, ℤ, pos, ◌+ℤ◌, refl, sym, ap, ◌∙◌, subst, arith, inl, inr}
-use Rattle.std.specs.Prelude.{unsigned_abs}
+use Rattle.std.specs.Prelude.{unsigned_abs, Option, Some, IfSome}
+use Rattle.ival_core.specs.Ivals.{IsOnly}
 use Rattle.std.specs.List.{AllByRecursion}
-use Rattle.std.proofs.Math.Nat.{mul-le-mul_right, mul_assoc, mul_comm}
+use Rattle.std.proofs.Math.Nat.{mul-le-mul_right, mul_assoc, mul_comm, mul-add}
 use Rattle.std.proofs.lemmas.Int.{ints}
 use lib.Signed.{◌≤ℤ◌}
 use Rattle.cell_laws.specs.Access.{AllWithin}
@@ -15,29 +16,45 @@ use Rattle.ival_core.specs.declared.value.Ival.{Ival}
 use Rattle.ival_core.specs.Sets.{Has, IsValid, Among, IsLongRun, apart}
 use Rattle.ival_core.proofs.Distances.{apart_is}
 use Rattle.ival_core.proofs.Hulls.{Spans-run}
-use Rattle.map_accesses.specs.Accesses.{Fits, AllFit, more_in, turns}
+use Rattle.map_accesses.specs.Accesses.{bit_at, Fits, AllFit, more_in, turns}
+
+grows_by : (unit a : ℕ) → 0 < unit → a ≤ unit * a
+grows_by zero a h = absurd (omega arith)
+grows_by (suc u) a h = let s : suc u * a ≡ a + u * a = omega arith in omega arith
 
 -- ---- few numbers
 
-pub few_small : (k n : ℕ) (xs : List ℤ) → n < 2 ^ 64 → ((z : ℤ) → Among xs z → Fits k n z) → AllByRecursion (λ z. unsigned_abs z < 2 ^ 64) xs
-few_small k n [] s f = tt
-few_small k n (x ∷ xs) s f = let h = (f x (inl refl)).high in (omega arith, few_small k n xs s (λ z a. f z (inr a)))
+pub few_small : (unit k n : ℕ) (xs : List ℤ) → 0 < unit → n < 2 ^ 64 → ((z : ℤ) → Among xs z → Fits unit k n z) → AllByRecursion (λ z. (unsigned_abs z < 2 ^ 64) × (bit_at unit z < 2 ^ 64)) xs
+few_small unit k n [] p s f = tt
+few_small unit k n (x ∷ xs) p s f =
+    let h = (f x (inl refl)).high in
+    let g = grows_by unit (unsigned_abs x) p in
+    ((omega arith, omega arith), few_small unit k n xs p s (λ z a. f z (inr a)))
 
-pub few_within : (k n : ℕ) (xs : List ℤ) → ((z : ℤ) → Among xs z → Fits k n z) → AllWithin k n (map unsigned_abs xs)
-few_within k n [] f = tt
-few_within k n (x ∷ xs) f = ((f x (inl refl)).high, few_within k n xs (λ z a. f z (inr a)))
+pub few_within : (unit k n : ℕ) (xs : List ℤ) → ((z : ℤ) → Among xs z → Fits unit k n z) → AllWithin k n (map (bit_at unit) xs)
+few_within unit k n [] f = tt
+few_within unit k n (x ∷ xs) f = ((f x (inl refl)).high, few_within unit k n xs (λ z a. f z (inr a)))
+
+pub record IsSmall (unit : ℕ) (z : ℤ) : Type 0 where
+  pub number : unsigned_abs z < 2 ^ 64
+  pub bit : bit_at unit z < 2 ^ 64
+
+pub small : (unit k n : ℕ) (z : ℤ) → 0 < unit → n < 2 ^ 64 → Fits unit k n z → IsSmall unit z
+small unit k n z p h f = let a = f.high in let g = grows_by unit (unsigned_abs z) p in record { number = omega arith; bit = omega arith }
 
 -- ---- runs
 
-pub record RunFits (k n : ℕ) (p : Progression) : Type 0 where
-  pub inside : unsigned_abs p.low + more_in p * p.stride + k ≤ n
-  pub some : 0 < p.stride
+pub record RunFits (unit k n : ℕ) (p : Progression) : Type 0 where
+  pub inside : bit_at unit p.low + more_in p * (unit * p.stride) + k ≤ n
+  pub some : 0 < unit * p.stride
   pub many : 8 ≤ more_in p
-  pub steps : p.stride ≤ n
+  pub first : unsigned_abs p.low ≤ n
+  pub stride : p.stride ≤ n
+  pub steps : unit * p.stride ≤ n
   pub more : more_in p ≤ n
 
-pub run_fits : (k n : ℕ) (p : Progression) → IsLongRun p → AllFit k n (Many p) → RunFits k n p
-run_fits k n p l f =
+pub run_fits : (unit k n : ℕ) (p : Progression) → 0 < unit → IsLongRun p → AllFit unit k n (Many p) → RunFits unit k n p
+run_fits unit k n p u l f =
     let s = Spans-run p l in
     let first = f p.low s.first in
     let last = f p.high s.last in
@@ -50,12 +67,19 @@ run_fits k n p l f =
     let long = l.long in
     let at_first = first.low in
     let far : 8 * p.stride ≤ apart p.low p.high = omega (arith, ints) in
-    let end : unsigned_abs p.low + apart p.low p.high ≡ unsigned_abs p.high = omega (arith, ints) in
-    let inside : unsigned_abs p.low + apart p.low p.high + k ≤ n = let h = last.high in omega arith in
+    let end : unsigned_abs p.low + more_in p * p.stride ≡ unsigned_abs p.high = let a : unsigned_abs p.low + apart p.low p.high ≡ unsigned_abs p.high = omega (arith, ints) in omega arith in
+    let turn : unit * (more_in p * p.stride) ≡ more_in p * (unit * p.stride) =
+    sym (mul_assoc unit (more_in p) p.stride) ∙ ap (λ (x : ℕ). x * p.stride) (mul_comm unit (more_in p)) ∙ mul_assoc (more_in p) unit p.stride in
+    let high : bit_at unit p.high ≡ bit_at unit p.low + more_in p * (unit * p.stride) =
+    ap (λ (x : ℕ). unit * x) (sym end) ∙ mul-add unit (unsigned_abs p.low) (more_in p * p.stride) ∙ ap (λ (x : ℕ). bit_at unit p.low + x) turn in
+    let inside : bit_at unit p.low + more_in p * (unit * p.stride) + k ≤ n = let h = last.high in omega arith in
     let many : 8 ≤ more_in p = enough 8 (more_in p) p.stride l.moves (omega arith) in
-    let one : more_in p * 1 ≤ more_in p * p.stride = times (more_in p) 1 p.stride l.moves in
-    let two : 1 * p.stride ≤ more_in p * p.stride = mul-le-mul_right p.stride (omega arith) in
-    record { inside = omega arith; some = l.moves; many = many; steps = omega arith; more = omega arith }
+    let wide = grows_by unit p.stride u in
+    let moves = l.moves in
+    let one : more_in p * 1 ≤ more_in p * (unit * p.stride) = times (more_in p) 1 (unit * p.stride) (omega arith) in
+    let two : 1 * (unit * p.stride) ≤ more_in p * (unit * p.stride) = mul-le-mul_right (unit * p.stride) (omega arith) in
+    let low = grows_by unit (unsigned_abs p.low) u in
+    record { inside = inside; some = omega arith; many = many; first = omega arith; stride = omega arith; steps = omega arith; more = omega arith }
   where
     times : (a b c : ℕ) → b ≤ c → a * b ≤ a * c
     times zero b c h = let x : 0 * b ≡ 0 = omega arith in omega arith
@@ -69,9 +93,6 @@ run_fits k n p l f =
         let y : suc b * s ≡ s + b * s = omega arith in
         let r = enough a b s p (omega arith) in
         omega arith
-
-pub single_fits : (k n : ℕ) (z : ℤ) → n < 2 ^ 64 → Fits k n z → unsigned_abs z < 2 ^ 64
-single_fits k n z h f = let a = f.high in omega arith
 
 -- ---- turns
 
@@ -123,12 +144,15 @@ turn_small n step more first k w l h = let m : n * step ≤ more * step = mul-le
 pub long_run : (v : Ival) (now : Shape) (p : Progression) → now ≡ v.shape → now ≡ Many p → IsLongRun p
 long_run v now p e f = subst IsValid (sym e ∙ f) v.valid
 
-pub set_few : (k n : ℕ) (s now : Shape) (v : ArrayVec ℤ) (xs : List ℤ) → now ≡ s → now ≡ Few v → xs ≡ v.items → AllFit k n s → (z : ℤ) → Among xs z → Fits k n z
-set_few k n s now v xs e f g h z a =
+pub one_held : (v : Ival) (r : Option ℤ) (n : ℤ) → IfSome r (λ z. IsOnly v z) → r ≡ Some n → Has v.shape n
+one_held v r n f e = ((subst (λ (x : Option ℤ). IfSome x (λ z. IsOnly v z)) e f) n).1 refl
+
+pub set_few : (unit k n : ℕ) (s now : Shape) (v : ArrayVec ℤ) (xs : List ℤ) → now ≡ s → now ≡ Few v → xs ≡ v.items → AllFit unit k n s → (z : ℤ) → Among xs z → Fits unit k n z
+set_few unit k n s now v xs e f g h z a =
     h z (subst (λ (t : Shape). Has t z) (sym f ∙ e) (subst (λ (ys : List ℤ). Among ys z) g a))
 
-pub set_run : (k n : ℕ) (s now : Shape) (p : Progression) → now ≡ s → now ≡ Many p → AllFit k n s → AllFit k n (Many p)
-set_run k n s now p e f h = subst (AllFit k n) (sym e ∙ f) h
+pub set_run : (unit k n : ℕ) (s now : Shape) (p : Progression) → now ≡ s → now ≡ Many p → AllFit unit k n s → AllFit unit k n (Many p)
+set_run unit k n s now p e f h = subst (AllFit unit k n) (sym e ∙ f) h
 
 pub along : (f s m l st mo k w : ℕ) → f ≡ l → s ≡ st → m ≡ mo → l + mo * st + k ≤ w → f + m * s + k ≤ w
 along f s m l st mo k w a b c h =

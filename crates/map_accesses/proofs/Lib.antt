@@ -1,2 +1,5 @@
 pub mod Fitting
 pub mod Turning
+pub mod Widths
+pub mod Overwriting
+pub mod Describing

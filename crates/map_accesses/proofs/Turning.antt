@@ -1,6 +1,6 @@
 -- Turns of slots so far.
 use Rattle.std.proofs.Common.{◌≡◌, ℕ, zero, suc, ◌+◌, ◌-◌, ◌*◌, ◌/◌, ◌<◌, ◌≤◌, List, [], ◌++◌, map, ℤ, refl, sym, ap, ◌∙◌, subst, arith}
-use Rattle.std.specs.Prelude.{unsigned_abs, None, Some}
+use Rattle.std.specs.Prelude.{None, Some}
 use Rattle.std.proofs.lemmas.Bool.{lt-ltb, le-ltb}
 use Rattle.arrayvec.specs.ArrayVec.{ArrayVec}
 use Rattle.cell_laws.specs.Elements.{Element, width, AllFine}
@@ -18,7 +18,7 @@ use Rattle.run_slots.specs.Repeats.{told_once}
 use Rattle.run_slots.specs.Slots.{slots_weakened}
 use Rattle.run_slots.proofs.Widths.{weakened_width, weakened_fine}
 use Rattle.run_slots.proofs.Representing.{within_steps}
-use Rattle.map_accesses.specs.Accesses.{Fits, more_in, loaded_among, loaded_or, loaded_at, turns, after_turns, weakened_by, weakened_at}
+use Rattle.map_accesses.specs.Accesses.{bit_at, Fits, more_in, loaded_among, loaded_or, loaded_at, turns, after_turns, weakened_by, weakened_at}
 use Rattle.map_accesses.proofs.Fitting.{TurnsFit, turns_fit, turn_inside, few_within}
 
 -- what the map is after n turns
@@ -66,25 +66,25 @@ module _ {C H : Type 0} (o : Ops C H) where
       let d : n ≡ turns k step = omega arith in
       r.same ∙ ap (after_turns o m k first step more es) d
 
-  pub by_turns : (m : List (Element C)) (k first step more : ℕ) (p : Progression) (c : C) → first ≡ unsigned_abs p.low → step ≡ p.stride → more ≡ more_in p → 200 ≤ more →
-      after_turns o m k first step more (put o k c) (turns k step) ≡ weakened_by o m k p c
+  pub by_turns : (m : List (Element C)) (unit k first step more : ℕ) (p : Progression) (c : C) → first ≡ bit_at unit p.low → step ≡ unit * p.stride → more ≡ more_in p → 200 ≤ more →
+      after_turns o m k first step more (put o k c) (turns k step) ≡ weakened_by o m unit k p c
   unfolding weakened_by
-  by_turns m k first step more p c a b d h =
+  by_turns m unit k first step more p c a b d h =
       let l = le-ltb (more_in p) 200 (omega arith) in
       ap (λ (x : ℕ). after_turns o m k x step more (put o k c) (turns k step)) a
-      ∙ ap (λ (x : ℕ). after_turns o m k (unsigned_abs p.low) x more (put o k c) (turns k x)) b
-      ∙ ap (λ (x : ℕ). after_turns o m k (unsigned_abs p.low) p.stride x (put o k c) (turns k p.stride)) d
+      ∙ ap (λ (x : ℕ). after_turns o m k (bit_at unit p.low) x more (put o k c) (turns k x)) b
+      ∙ ap (λ (x : ℕ). after_turns o m k (bit_at unit p.low) (unit * p.stride) x (put o k c) (turns k (unit * p.stride))) d
       ∙ (rw l refl)
 
-  pub by_each : (m : List (Element C)) (k first step more : ℕ) (p : Progression) (c : C) (slice now old : List ℕ) → first ≡ unsigned_abs p.low → step ≡ p.stride → more ≡ more_in p → more < 200 →
-      slice ≡ now → now ≡ old ++ steps_from first step (more + 1) → old ≡ [] → weakened o m slice k c ≡ weakened_by o m k p c
+  pub by_each : (m : List (Element C)) (unit k first step more : ℕ) (p : Progression) (c : C) (slice now old : List ℕ) → first ≡ bit_at unit p.low → step ≡ unit * p.stride → more ≡ more_in p → more < 200 →
+      slice ≡ now → now ≡ old ++ steps_from first step (more + 1) → old ≡ [] → weakened o m slice k c ≡ weakened_by o m unit k p c
   unfolding weakened_by
-  by_each m k first step more p c slice now old a b d h e f z =
+  by_each m unit k first step more p c slice now old a b d h e f z =
       let l = lt-ltb (more_in p) 200 (omega arith) in
       let i : more + 1 ≡ suc more = omega arith in
       ap (λ (x : List ℕ). weakened o m x k c)
       (e ∙ f ∙ ap (λ (x : List ℕ). x ++ steps_from first step (more + 1)) z ∙ ap (steps_from first step) i ∙ ap (λ (x : ℕ). steps_from x step (suc more)) a
-      ∙ ap (λ (x : ℕ). steps_from (unsigned_abs p.low) x (suc more)) b ∙ ap (λ (x : ℕ). steps_from (unsigned_abs p.low) p.stride (suc x)) d)
+      ∙ ap (λ (x : ℕ). steps_from (bit_at unit p.low) x (suc more)) b ∙ ap (λ (x : ℕ). steps_from (bit_at unit p.low) (unit * p.stride) (suc x)) d)
       ∙ (rw l refl)
 
   pub each_within : (k w first step n : ℕ) (slice now old : List ℕ) → slice ≡ now → now ≡ old ++ steps_from first step n → old ≡ [] → first + (n - 1) * step + k ≤ w → AllWithin k w slice
@@ -93,37 +93,37 @@ module _ {C H : Type 0} (o : Ops C H) where
 
   -- ---- what code loads and stores at the numbers of a set
 
-  pub few_offsets : (k w : ℕ) (xs : List ℤ) (slice offsets : List ℕ) → slice ≡ offsets → offsets ≡ map unsigned_abs xs → ((z : ℤ) → Among xs z → Fits k w z) → AllWithin k w slice
-  few_offsets k w xs slice offsets e f h = subst (AllWithin k w) (sym (e ∙ f)) (few_within k w xs h)
+  pub few_offsets : (unit k w : ℕ) (xs : List ℤ) (slice offsets : List ℕ) → slice ≡ offsets → offsets ≡ map (bit_at unit) xs → ((z : ℤ) → Among xs z → Fits unit k w z) → AllWithin k w slice
+  few_offsets unit k w xs slice offsets e f h = subst (AllWithin k w) (sym (e ∙ f)) (few_within unit k w xs h)
 
-  pub loads_few : (m : List (Element C)) (rs : List (Run C)) (k : ℕ) (s now : Shape) (v : ArrayVec ℤ) (xs : List ℤ) (slice offsets : List ℕ) → now ≡ s → now ≡ Few v → xs ≡ v.items → slice ≡ offsets → offsets ≡ map unsigned_abs xs →
-      loaded_all o m slice k ≡ loaded_among o m rs k s
+  pub loads_few : (m : List (Element C)) (unit : ℕ) (rs : List (Run C)) (k : ℕ) (s now : Shape) (v : ArrayVec ℤ) (xs : List ℤ) (slice offsets : List ℕ) → now ≡ s → now ≡ Few v → xs ≡ v.items → slice ≡ offsets → offsets ≡ map (bit_at unit) xs →
+      loaded_all o m slice k ≡ loaded_among o m unit rs k s
   unfolding loaded_among
-  loads_few m rs k s now v xs slice offsets e f g h i =
-      ap (λ (x : List ℕ). loaded_all o m x k) (h ∙ i ∙ ap (map unsigned_abs) g) ∙ ap (loaded_among o m rs k) (sym f ∙ e)
+  loads_few m unit rs k s now v xs slice offsets e f g h i =
+      ap (λ (x : List ℕ). loaded_all o m x k) (h ∙ i ∙ ap (map (bit_at unit)) g) ∙ ap (loaded_among o m unit rs k) (sym f ∙ e)
 
-  pub loads_run : (m : List (Element C)) (rs : List (Run C)) (k first step more : ℕ) (s now : Shape) (p : Progression) → now ≡ s → now ≡ Many p → first ≡ unsigned_abs p.low → step ≡ p.stride → more ≡ more_in p →
-      loaded_all o m (told_once rs k first step (suc more)) k ≡ loaded_among o m rs k s
+  pub loads_run : (m : List (Element C)) (unit : ℕ) (rs : List (Run C)) (k first step more : ℕ) (s now : Shape) (p : Progression) → now ≡ s → now ≡ Many p → first ≡ bit_at unit p.low → step ≡ unit * p.stride → more ≡ more_in p →
+      loaded_all o m (told_once rs k first step (suc more)) k ≡ loaded_among o m unit rs k s
   unfolding loaded_among
-  loads_run m rs k first step more s now p e f a b d =
+  loads_run m unit rs k first step more s now p e f a b d =
       ap (λ (x : List ℕ). loaded_all o m x k)
-      (ap (λ (x : ℕ). told_once rs k x step (suc more)) a ∙ ap (λ (x : ℕ). told_once rs k (unsigned_abs p.low) x (suc more)) b ∙ ap (λ (x : ℕ). told_once rs k (unsigned_abs p.low) p.stride (suc x)) d)
-      ∙ ap (loaded_among o m rs k) (sym f ∙ e)
+      (ap (λ (x : ℕ). told_once rs k x step (suc more)) a ∙ ap (λ (x : ℕ). told_once rs k (bit_at unit p.low) x (suc more)) b ∙ ap (λ (x : ℕ). told_once rs k (bit_at unit p.low) (unit * p.stride) (suc x)) d)
+      ∙ ap (loaded_among o m unit rs k) (sym f ∙ e)
 
-  pub loads_none : (m : List (Element C)) (rs : List (Run C)) (k : ℕ) (s : Shape) → single_of s ≡ None → loaded_among o m rs k s ≡ loaded_at o m rs k s
+  pub loads_none : (m : List (Element C)) (unit : ℕ) (rs : List (Run C)) (k : ℕ) (s : Shape) → single_of s ≡ None → loaded_among o m unit rs k s ≡ loaded_at o m unit rs k s
   unfolding loaded_at loaded_or
-  loads_none m rs k s e = sym (ap (loaded_or o m (loaded_among o m rs k s) k) e)
+  loads_none m unit rs k s e = sym (ap (loaded_or o m unit (loaded_among o m unit rs k s) k) e)
 
-  pub loads_one : (m : List (Element C)) (rs : List (Run C)) (k n : ℕ) (s : Shape) (z : ℤ) → single_of s ≡ Some z → n ≡ unsigned_abs z → loaded o m n k ≡ loaded_at o m rs k s
+  pub loads_one : (m : List (Element C)) (unit : ℕ) (rs : List (Run C)) (k n : ℕ) (s : Shape) (z : ℤ) → single_of s ≡ Some z → n ≡ bit_at unit z → loaded o m n k ≡ loaded_at o m unit rs k s
   unfolding loaded_at loaded_or
-  loads_one m rs k n s z e f = ap (λ (x : ℕ). loaded o m x k) f ∙ sym (ap (loaded_or o m (loaded_among o m rs k s) k) e)
+  loads_one m unit rs k n s z e f = ap (λ (x : ℕ). loaded o m x k) f ∙ sym (ap (loaded_or o m unit (loaded_among o m unit rs k s) k) e)
 
-  pub stores_few : (m : List (Element C)) (k : ℕ) (c : C) (s now : Shape) (v : ArrayVec ℤ) (xs : List ℤ) (slice offsets : List ℕ) → now ≡ s → now ≡ Few v → xs ≡ v.items → slice ≡ offsets → offsets ≡ map unsigned_abs xs →
-      weakened o m slice k c ≡ weakened_at o m k s c
+  pub stores_few : (m : List (Element C)) (unit k : ℕ) (c : C) (s now : Shape) (v : ArrayVec ℤ) (xs : List ℤ) (slice offsets : List ℕ) → now ≡ s → now ≡ Few v → xs ≡ v.items → slice ≡ offsets → offsets ≡ map (bit_at unit) xs →
+      weakened o m slice k c ≡ weakened_at o m unit k s c
   unfolding weakened_at
-  stores_few m k c s now v xs slice offsets e f g h i =
-      ap (λ (x : List ℕ). weakened o m x k c) (h ∙ i ∙ ap (map unsigned_abs) g) ∙ ap (λ (t : Shape). weakened_at o m k t c) (sym f ∙ e)
+  stores_few m unit k c s now v xs slice offsets e f g h i =
+      ap (λ (x : List ℕ). weakened o m x k c) (h ∙ i ∙ ap (map (bit_at unit)) g) ∙ ap (λ (t : Shape). weakened_at o m unit k t c) (sym f ∙ e)
 
-  pub stores_run : (m : List (Element C)) (k : ℕ) (c : C) (s now : Shape) (p : Progression) → now ≡ s → now ≡ Many p → weakened_by o m k p c ≡ weakened_at o m k s c
+  pub stores_run : (m : List (Element C)) (unit k : ℕ) (c : C) (s now : Shape) (p : Progression) → now ≡ s → now ≡ Many p → weakened_by o m unit k p c ≡ weakened_at o m unit k s c
   unfolding weakened_at
-  stores_run m k c s now p e f = ap (λ (t : Shape). weakened_at o m k t c) (sym f ∙ e)
+  stores_run m unit k c s now p e f = ap (λ (t : Shape). weakened_at o m unit k t c) (sym f ∙ e)

@@ -9,7 +9,7 @@ ghost use Rattle.run_slots.specs.Offsets.{steps_from};
 ghost use Rattle.offmap.specs.Maps.{AreRanges};
 ghost use Rattle.map_accesses.specs.Accesses.{AllFit, more_in, loaded_among, loaded_at, after_turns, turns as turns_of, weakened_by, weakened_at};
 
-use crate::offsets::{offsets_of, steps_of};
+use crate::offsets::{bit_at, offsets_of, steps_of};
 use cell_runs::Mem;
 use cell_runs::cells::Cells;
 use ival_core::{Ival, Progression, Shape};
@@ -19,32 +19,35 @@ use run_slots::{Slots, Steps};
 use std::alloc::Global;
 
 /// The cell of the bits at one of several numbers.
-fn load_among<C: Cells>(alloc: Global, map: &OffMap<C>, at: &Ival, bits: u64) -> Mem<C>
+fn load_among<C: Cells>(alloc: Global, map: &OffMap<C>, at: &Ival, unit: u64, bits: u64) -> Mem<C>
     requires size { IsSize bits }
-    requires inside { AllFit bits (width map.now) at.now.shape }
-    ensures { IfOk result (λ c. (rs : List (PlainRun C)) → AreRanges map.now rs → c ≡ loaded_among C.ops map.now rs bits at.now.shape) }
+    requires unit { 0 < unit }
+    requires inside { AllFit unit bits (width map.now) at.now.shape }
+    ensures { IfOk result (λ c. (rs : List (PlainRun C)) → AreRanges map.now rs → c ≡ loaded_among C.ops map.now unit rs bits at.now.shape) }
 {
     map.facts();
     match at.shape() {
         Shape::Few(few) => {
-            let offsets = offsets_of(alloc, few.as_slice())?;
+            let offsets = offsets_of(alloc, few.as_slice(), unit)?;
             map.load_all(alloc, &offsets, bits)
         }
-        Shape::Many(run) => map.load_steps(alloc, steps_of(*run), bits),
+        Shape::Many(run) => map.load_steps(alloc, steps_of(*run, unit), bits),
     }
 }
 
-/// The cell of so many bits at one of the numbers: it gives the content at each of these. With one number it is the cell there.
-pub fn load<C: Cells>(alloc: Global, map: &OffMap<C>, at: &Ival, bits: u64) -> Mem<C>
+/// The cell of so many bits at one of the numbers, which count units of some bits: it gives the content at each of these. With one number it is the cell
+/// there.
+pub fn load<C: Cells>(alloc: Global, map: &OffMap<C>, at: &Ival, unit: u64, bits: u64) -> Mem<C>
     requires size { IsSize bits }
-    requires inside { AllFit bits (width map.now) at.now.shape }
-    ensures { IfOk result (λ c. (rs : List (PlainRun C)) → AreRanges map.now rs → c ≡ loaded_at C.ops map.now rs bits at.now.shape) }
+    requires unit { 0 < unit }
+    requires inside { AllFit unit bits (width map.now) at.now.shape }
+    ensures { IfOk result (λ c. (rs : List (PlainRun C)) → AreRanges map.now rs → c ≡ loaded_at C.ops map.now unit rs bits at.now.shape) }
 {
     match at.as_single() {
-        None => load_among(alloc, map, at, bits),
+        None => load_among(alloc, map, at, unit, bits),
         Some(one) => {
             map.facts();
-            map.load(alloc, one.unsigned_abs() as u64, bits)
+            map.load(alloc, bit_at(one, unit), bits)
         }
     }
 }
@@ -86,16 +89,18 @@ fn store_along<C: Cells>(
     alloc: Global,
     map: &OffMap<C>,
     run: Progression,
+    unit: u64,
     bits: u64,
     cell: &C,
 ) -> Mem<OffMap<C>>
     requires size { IsSize bits }
+    requires unit { 0 < unit }
     requires long { IsLongRun run }
-    requires inside { AllFit bits (width map.now) (ManyNumbers run) }
-    ensures { IfOk result (λ m. m ≡ weakened_by C.ops map.now bits run cell.now) }
+    requires inside { AllFit unit bits (width map.now) (ManyNumbers run) }
+    ensures { IfOk result (λ m. m ≡ weakened_by C.ops map.now unit bits run cell.now) }
 {
     map.facts();
-    let steps = steps_of(run);
+    let steps = steps_of(run, unit);
     if steps.more >= 200 {
         return store_turns(alloc, map, steps, bits, cell);
     }
@@ -109,19 +114,21 @@ pub fn store_weak<C: Cells>(
     alloc: Global,
     map: &OffMap<C>,
     at: &Ival,
+    unit: u64,
     bits: u64,
     cell: &C,
 ) -> Mem<OffMap<C>>
     requires size { IsSize bits }
-    requires inside { AllFit bits (width map.now) at.now.shape }
-    ensures { IfOk result (λ m. m ≡ weakened_at C.ops map.now bits at.now.shape cell.now) }
+    requires unit { 0 < unit }
+    requires inside { AllFit unit bits (width map.now) at.now.shape }
+    ensures { IfOk result (λ m. m ≡ weakened_at C.ops map.now unit bits at.now.shape cell.now) }
 {
     match at.shape() {
         Shape::Few(few) => {
             map.facts();
-            let offsets = offsets_of(alloc, few.as_slice())?;
+            let offsets = offsets_of(alloc, few.as_slice(), unit)?;
             map.store_weak(alloc, &offsets, bits, cell)
         }
-        Shape::Many(run) => store_along(alloc, map, *run, bits, cell),
+        Shape::Many(run) => store_along(alloc, map, *run, unit, bits, cell),
     }
 }

@@ -2,6 +2,7 @@
 #![tactic(auto)]
 
 pub mod accesses;
-mod offsets;
+pub mod laws;
+pub mod offsets;
 
 pub use accesses::{load, store_weak};

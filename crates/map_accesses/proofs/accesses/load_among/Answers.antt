@@ -9,58 +9,73 @@ use Rattle.map_accesses.proofs.accesses.load_among.Goals as goal
 
 pub offsets_of-requires : goal.offsets_of-requires
 offsets_of-requires g c =
-    few_small c.args.bits (width c.args.map.now) c.as_slice.result.now c.facts.ensures.small
-    (set_few c.args.bits (width c.args.map.now) c.args.at.now.shape c.shape.result.now _ c.as_slice.result.now c.shape.ensures c.in-Few.is c.as_slice.ensures.value c.requires.inside)
+    few_small c.args.unit c.args.bits (width c.args.map.now) c.as_slice.result.now c.requires.unit c.facts.ensures.small
+    (set_few c.args.unit c.args.bits (width c.args.map.now) c.args.at.now.shape c.shape.result.now _ c.as_slice.result.now c.shape.ensures c.in-Few.is c.as_slice.ensures.value c.requires.inside)
 
 pub load_all-requires-clause-inside : goal.load_all-requires-clause-inside
 load_all-requires-clause-inside g c =
-    few_offsets g.C.Cells.ops c.args.bits (width c.args.map.now) c.as_slice.result.now c.deref.result.now _ c.deref.ensures.value c.in_ok-offsets-in-Few.ensures
-    (set_few c.args.bits (width c.args.map.now) c.args.at.now.shape c.shape.result.now _ c.as_slice.result.now c.shape.ensures c.in-Few.is c.as_slice.ensures.value c.requires.inside)
+    few_offsets g.C.Cells.ops c.args.unit c.args.bits (width c.args.map.now) c.as_slice.result.now c.deref.result.now _ c.deref.ensures.value c.in_ok-offsets-in-Few.ensures
+    (set_few c.args.unit c.args.bits (width c.args.map.now) c.args.at.now.shape c.shape.result.now _ c.as_slice.result.now c.shape.ensures c.in-Few.is c.as_slice.ensures.value c.requires.inside)
 
 pub steps_of-requires-clause-long : goal.steps_of-requires-clause-long
 steps_of-requires-clause-long g c = long_run c.args.at.now c.shape.result.now _ c.shape.ensures c.in-Many.is
 
+pub steps_of-requires-clause-low : goal.steps_of-requires-clause-low
+steps_of-requires-clause-low g c =
+    let i = (run_fits c.args.unit c.args.bits (width c.args.map.now) c.in-Many.run' c.requires.unit (long_run c.args.at.now c.shape.result.now _ c.shape.ensures c.in-Many.is)
+    (set_run c.args.unit c.args.bits (width c.args.map.now) c.args.at.now.shape c.shape.result.now _ c.shape.ensures c.in-Many.is c.requires.inside)).first in
+    let s = c.facts.ensures.small in
+    omega arith
+
 pub steps_of-requires-clause-first : goal.steps_of-requires-clause-first
 steps_of-requires-clause-first g c =
-    let i = (run_fits c.args.bits (width c.args.map.now) c.in-Many.run' (long_run c.args.at.now c.shape.result.now _ c.shape.ensures c.in-Many.is)
-    (set_run c.args.bits (width c.args.map.now) c.args.at.now.shape c.shape.result.now _ c.shape.ensures c.in-Many.is c.requires.inside)).inside in
+    let i = (run_fits c.args.unit c.args.bits (width c.args.map.now) c.in-Many.run' c.requires.unit (long_run c.args.at.now c.shape.result.now _ c.shape.ensures c.in-Many.is)
+    (set_run c.args.unit c.args.bits (width c.args.map.now) c.args.at.now.shape c.shape.result.now _ c.shape.ensures c.in-Many.is c.requires.inside)).inside in
+    let s = c.facts.ensures.small in
+    omega arith
+
+pub steps_of-requires-clause-stride : goal.steps_of-requires-clause-stride
+steps_of-requires-clause-stride g c =
+    let i = (run_fits c.args.unit c.args.bits (width c.args.map.now) c.in-Many.run' c.requires.unit (long_run c.args.at.now c.shape.result.now _ c.shape.ensures c.in-Many.is)
+    (set_run c.args.unit c.args.bits (width c.args.map.now) c.args.at.now.shape c.shape.result.now _ c.shape.ensures c.in-Many.is c.requires.inside)).stride in
     let s = c.facts.ensures.small in
     omega arith
 
 pub steps_of-requires-clause-step : goal.steps_of-requires-clause-step
 steps_of-requires-clause-step g c =
-    let i = (run_fits c.args.bits (width c.args.map.now) c.in-Many.run' (long_run c.args.at.now c.shape.result.now _ c.shape.ensures c.in-Many.is)
-    (set_run c.args.bits (width c.args.map.now) c.args.at.now.shape c.shape.result.now _ c.shape.ensures c.in-Many.is c.requires.inside)).steps in
+    let i = (run_fits c.args.unit c.args.bits (width c.args.map.now) c.in-Many.run' c.requires.unit (long_run c.args.at.now c.shape.result.now _ c.shape.ensures c.in-Many.is)
+    (set_run c.args.unit c.args.bits (width c.args.map.now) c.args.at.now.shape c.shape.result.now _ c.shape.ensures c.in-Many.is c.requires.inside)).steps in
     let s = c.facts.ensures.small in
     omega arith
 
 pub steps_of-requires-clause-more : goal.steps_of-requires-clause-more
 steps_of-requires-clause-more g c =
-    let i = (run_fits c.args.bits (width c.args.map.now) c.in-Many.run' (long_run c.args.at.now c.shape.result.now _ c.shape.ensures c.in-Many.is)
-    (set_run c.args.bits (width c.args.map.now) c.args.at.now.shape c.shape.result.now _ c.shape.ensures c.in-Many.is c.requires.inside)).more in
+    let i = (run_fits c.args.unit c.args.bits (width c.args.map.now) c.in-Many.run' c.requires.unit (long_run c.args.at.now c.shape.result.now _ c.shape.ensures c.in-Many.is)
+    (set_run c.args.unit c.args.bits (width c.args.map.now) c.args.at.now.shape c.shape.result.now _ c.shape.ensures c.in-Many.is c.requires.inside)).more in
     let s = c.facts.ensures.small in
     omega arith
 
 pub load_steps-requires-clause-step : goal.load_steps-requires-clause-step
 load_steps-requires-clause-step g c =
-    let l = (long_run c.args.at.now c.shape.result.now _ c.shape.ensures c.in-Many.is).moves in
+    let i = (run_fits c.args.unit c.args.bits (width c.args.map.now) c.in-Many.run' c.requires.unit (long_run c.args.at.now c.shape.result.now _ c.shape.ensures c.in-Many.is)
+    (set_run c.args.unit c.args.bits (width c.args.map.now) c.args.at.now.shape c.shape.result.now _ c.shape.ensures c.in-Many.is c.requires.inside)).some in
     let e = c.steps_of.ensures.step in
     omega arith
 
 pub load_steps-requires-clause-inside : goal.load_steps-requires-clause-inside
 load_steps-requires-clause-inside g c =
     along c.steps_of.result.first c.steps_of.result.step c.steps_of.result.more _ _ _ c.args.bits (width c.args.map.now) c.steps_of.ensures.first c.steps_of.ensures.step c.steps_of.ensures.more
-    (run_fits c.args.bits (width c.args.map.now) c.in-Many.run' (long_run c.args.at.now c.shape.result.now _ c.shape.ensures c.in-Many.is)
-    (set_run c.args.bits (width c.args.map.now) c.args.at.now.shape c.shape.result.now _ c.shape.ensures c.in-Many.is c.requires.inside)).inside
+    (run_fits c.args.unit c.args.bits (width c.args.map.now) c.in-Many.run' c.requires.unit (long_run c.args.at.now c.shape.result.now _ c.shape.ensures c.in-Many.is)
+    (set_run c.args.unit c.args.bits (width c.args.map.now) c.args.at.now.shape c.shape.result.now _ c.shape.ensures c.in-Many.is c.requires.inside)).inside
 
 pub returns-in_ok-offsets-in-Few : goal.returns-in_ok-offsets-in-Few
 returns-in_ok-offsets-in-Few g c =
     IfOk-weaker c.load_all.result _ _
-    (λ d e rs r. e ∙ loads_few g.C.Cells.ops c.args.map.now rs c.args.bits c.args.at.now.shape c.shape.result.now _ c.as_slice.result.now c.deref.result.now _ c.shape.ensures c.in-Few.is c.as_slice.ensures.value
+    (λ d e rs r. e ∙ loads_few g.C.Cells.ops c.args.map.now c.args.unit rs c.args.bits c.args.at.now.shape c.shape.result.now _ c.as_slice.result.now c.deref.result.now _ c.shape.ensures c.in-Few.is c.as_slice.ensures.value
     c.deref.ensures.value c.in_ok-offsets-in-Few.ensures) c.load_all.ensures
 
 pub returns-in-Many : goal.returns-in-Many
 returns-in-Many g c =
     IfOk-weaker c.load_steps.result _ _
-    (λ d e rs r. e rs r ∙ loads_run g.C.Cells.ops c.args.map.now rs c.args.bits c.steps_of.result.first c.steps_of.result.step c.steps_of.result.more c.args.at.now.shape c.shape.result.now _ c.shape.ensures c.in-Many.is
+    (λ d e rs r. e rs r ∙ loads_run g.C.Cells.ops c.args.map.now c.args.unit rs c.args.bits c.steps_of.result.first c.steps_of.result.step c.steps_of.result.more c.args.at.now.shape c.shape.result.now _ c.shape.ensures c.in-Many.is
     c.steps_of.ensures.first c.steps_of.ensures.step c.steps_of.ensures.more) c.load_steps.ensures.value
