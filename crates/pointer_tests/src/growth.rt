@@ -19,14 +19,22 @@ fn numbers(alloc: Global) -> Mem<bool> {
     Ok(has_bounds(&grown, 0, 100))
 }
 
-/// Offsets go to the end of the base before they go on.
-fn offsets(alloc: Global) -> Mem<bool> {
+/// The bytes 0 and 4 of base 1, widened.
+fn widened(alloc: Global) -> Mem<AVal> {
     let first = byte(alloc, 1, 0)?;
     let second = byte(alloc, 1, 4)?;
-    let grown = first.widen(alloc, &second, &Two, &[])?;
-    let end = byte(alloc, 1, 8)?;
-    let beyond = byte(alloc, 1, 12)?;
-    Ok(end.included(&grown) && !beyond.included(&grown))
+    first.widen(alloc, &second, &Two, &[])
+}
+
+fn holds_byte(alloc: Global, v: &AVal, offset: i32) -> Mem<bool> {
+    let one = byte(alloc, 1, offset)?;
+    Ok(one.included(v))
+}
+
+/// Offsets go to the end of the base before they go on.
+fn offsets(alloc: Global) -> Mem<bool> {
+    let grown = widened(alloc)?;
+    Ok(holds_byte(alloc, &grown, 8)? && !holds_byte(alloc, &grown, 12)?)
 }
 
 fn cell(value: AVal) -> Cellv {
@@ -37,19 +45,21 @@ fn cell(value: AVal) -> Cellv {
     }
 }
 
+fn grown_by(alloc: Global, from: &Cellv, n: i32) -> Mem<Cellv> {
+    from.widen_in(alloc, 8, &cell(number(n)), &Two, &[])
+}
+
+fn are_alike(a: &Cellv, b: &Cellv) -> bool {
+    a.included(b) && b.included(a)
+}
+
 /// A cell of 8 bits goes to 127 and then to 255.
 fn cells(alloc: Global) -> Mem<bool> {
-    let first = cell(number(0));
-    let grown = first.widen_in(alloc, 8, &cell(number(1)), &Two, &[])?;
-    let again = grown.widen_in(alloc, 8, &cell(number(128)), &Two, &[])?;
+    let grown = grown_by(alloc, &cell(number(0)), 1)?;
+    let again = grown_by(alloc, &grown, 128)?;
     let half = cell(AVal::number(Ival::range(0, 127, 0, 1)));
     let whole = cell(AVal::number(Ival::range(0, 255, 0, 1)));
-    Ok(
-        grown.included(&half)
-            && half.included(&grown)
-            && again.included(&whole)
-            && whole.included(&again),
-    )
+    Ok(are_alike(&grown, &half) && are_alike(&again, &whole))
 }
 
 #[test]

@@ -1,13 +1,9 @@
-//! Tests of operators on pointers, and of the widening of values, in a crate of their own so that these are proved once.
+//! Tests of operators with one operand, of conversions, and of the widening of values, in a crate of their own so that these are proved once; and
+//! the bases that these tests and others are about.
 #![tactic(auto)]
 
 #[cfg(test)]
 mod growth;
 #[cfg(test)]
 mod ones;
-#[cfg(test)]
-mod operators;
-#[cfg(test)]
-mod places;
-#[cfg(test)]
-mod tables;
+pub mod places;

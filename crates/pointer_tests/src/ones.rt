@@ -48,25 +48,48 @@ fn to_kind(alloc: Global, kind: IntKind, v: &AVal) -> Mem<AVal> {
     abs_convert(alloc, &CType::Int(kind), Machine::Lp64, v)
 }
 
+fn becomes(alloc: Global, kind: IntKind, n: i32, expected: i32) -> Mem<bool> {
+    let answer = to_kind(alloc, kind, &number(n))?;
+    Ok(is_number(&answer, expected))
+}
+
 fn converted_numbers(alloc: Global) -> Mem<bool> {
     Ok(
-        is_number(&to_kind(alloc, IntKind::UChar, &number(-1))?, 255)
-            && is_number(&to_kind(alloc, IntKind::SChar, &number(200))?, -56)
-            && is_number(&to_kind(alloc, IntKind::Bool, &number(7))?, 1)
-            && is_number(&to_kind(alloc, IntKind::Bool, &number(0))?, 0),
+        becomes(alloc, IntKind::UChar, -1, 255)?
+            && becomes(alloc, IntKind::SChar, 200, -56)?
+            && becomes(alloc, IntKind::Bool, 7, 1)?
+            && becomes(alloc, IntKind::Bool, 0, 0)?,
     )
+}
+
+/// An address in an integer of this kind.
+fn address_in(alloc: Global, kind: IntKind) -> Mem<AVal> {
+    let first = byte(alloc, 1, 4)?;
+    to_kind(alloc, kind, &first)
+}
+
+fn address_in_pointer(alloc: Global) -> Mem<AVal> {
+    let first = byte(alloc, 1, 4)?;
+    let to = CType::Ptr(Boxed::new(alloc, CType::Void)?);
+    abs_convert(alloc, &to, Machine::Lp64, &first)
+}
+
+fn is_told(v: &AVal) -> bool {
+    is_byte(v, 1, 4)
+}
+
+fn is_mixed_in(alloc: Global, kind: IntKind) -> Mem<bool> {
+    let answer = address_in(alloc, kind)?;
+    Ok(is_mix(&answer, 1))
 }
 
 /// An address stays in a pointer and in an unsigned long; in a char and in a long its base alone is told.
 fn converted_addresses(alloc: Global) -> Mem<bool> {
-    let first = byte(alloc, 1, 4)?;
-    let to = CType::Ptr(Boxed::new(alloc, CType::Void)?);
-    let pointer = abs_convert(alloc, &to, Machine::Lp64, &first)?;
     Ok(
-        is_byte(&pointer, 1, 4)
-            && is_byte(&to_kind(alloc, IntKind::ULong, &first)?, 1, 4)
-            && is_mix(&to_kind(alloc, IntKind::Char, &first)?, 1)
-            && is_mix(&to_kind(alloc, IntKind::Long, &first)?, 1),
+        is_told(&address_in_pointer(alloc)?)
+            && is_told(&address_in(alloc, IntKind::ULong)?)
+            && is_mixed_in(alloc, IntKind::Char)?
+            && is_mixed_in(alloc, IntKind::Long)?,
     )
 }
 

@@ -7,7 +7,8 @@ use c_base::number::BaseId;
 use ival_core::Ival;
 use std::alloc::Global;
 
-pub(crate) struct Two;
+/// Their sizes.
+pub struct Two;
 
 impl Sizes for Two {
     ghost use Rattle.std.specs.Prelude.{cond, ◌==◌};
@@ -20,16 +21,17 @@ impl Sizes for Two {
 }
 
 /// The byte of the base at a small offset.
-pub(crate) fn byte(alloc: Global, base: u32, offset: i32) -> Mem<AVal> {
+pub fn byte(alloc: Global, base: u32, offset: i32) -> Mem<AVal> {
     AVal::address(alloc, BaseId(base), Ival::single(offset as i128))
 }
 
-pub(crate) fn number(n: i32) -> AVal {
+/// The plain number.
+pub fn number(n: i32) -> AVal {
     AVal::number(Ival::single(n as i128))
 }
 
 /// Whether the value is this address alone.
-pub(crate) fn is_byte(v: &AVal, base: u32, offset: i32) -> bool {
+pub fn is_byte(v: &AVal, base: u32, offset: i32) -> bool {
     match v.part(0) {
         None => false,
         Some(part) => match part {
@@ -43,7 +45,7 @@ pub(crate) fn is_byte(v: &AVal, base: u32, offset: i32) -> bool {
 }
 
 /// Whether the value is this number alone.
-pub(crate) fn is_number(v: &AVal, n: i32) -> bool {
+pub fn is_number(v: &AVal, n: i32) -> bool {
     match v.numbers_alone() {
         None => false,
         Some(numbers) => numbers.as_single() == Some(n as i128),
@@ -51,7 +53,7 @@ pub(crate) fn is_number(v: &AVal, n: i32) -> bool {
 }
 
 /// Whether the value is a mix of this base alone.
-pub(crate) fn is_mix(v: &AVal, base: u32) -> bool {
+pub fn is_mix(v: &AVal, base: u32) -> bool {
     match v.part(0) {
         None => false,
         Some(part) => match part {

@@ -2,10 +2,10 @@
 //! second, base 2 stands at 4096 and base 1 right behind it, at 4112.
 
 use crate::operators::{distance, equal, is_defined, is_undefined, less, minus, plus};
-use crate::places::{byte, is_byte, number};
 use aops::Computed;
 use avalue_values::{AVal, Mem, Part};
 use c_base::kind::Kind;
+use pointer_tests::places::{byte, is_byte, number};
 use std::alloc::Global;
 
 /// Where the base stands in the two layouts.
@@ -56,14 +56,18 @@ fn row(base: u32, offset: i32, count: i32, first: i16, second: i16) -> Move {
     }
 }
 
-fn is_moved(alloc: Global, back: bool, row: &Move) -> Mem<bool> {
+fn moved(alloc: Global, back: bool, row: &Move) -> Mem<Computed> {
     let pointer = byte(alloc, row.base, row.offset)?;
     let count = number(row.count);
-    let answer = if back {
-        minus(alloc, &pointer, &count)?
+    if back {
+        minus(alloc, &pointer, &count)
     } else {
-        plus(alloc, &pointer, &count)?
-    };
+        plus(alloc, &pointer, &count)
+    }
+}
+
+fn is_moved(alloc: Global, back: bool, row: &Move) -> Mem<bool> {
+    let answer = moved(alloc, back, row)?;
     Ok(has_numbers(&answer.value, row.first, row.second))
 }
 
@@ -80,6 +84,7 @@ fn forwards(alloc: Global) -> Mem<bool> {
     let table = [
         row(1, 0, 1, 4100, 4116),
         row(1, 4, 1, 4104, 4120),
+        row(1, 0, 2, 4104, 4120),
         row(1, 8, -2, 4096, 4112),
         row(2, 0, 3, 8204, 4108),
         row(2, 12, 1, 8208, 4112),
@@ -89,6 +94,7 @@ fn forwards(alloc: Global) -> Mem<bool> {
 
 fn backwards(alloc: Global) -> Mem<bool> {
     let table = [
+        row(1, 0, 1, 4092, 4108),
         row(1, 8, 1, 4100, 4116),
         row(2, 16, 4, 8192, 4096),
         row(2, 4, -1, 8200, 4104),
@@ -96,7 +102,8 @@ fn backwards(alloc: Global) -> Mem<bool> {
     all_moved(alloc, true, &table)
 }
 
-/// Two pointers, and the number that the operator gives in both layouts; none where it is undefined.
+/// Two operands, bytes of bases or plain numbers (where the base is 0), and the number that the operator gives in both layouts; none where it is
+/// undefined.
 #[derive(Clone, Copy)]
 struct Pair {
     left: u32,
@@ -132,20 +139,39 @@ fn ask(alloc: Global, question: Question, a: &AVal, b: &AVal) -> Mem<Computed> {
     }
 }
 
-fn is_right(answer: &Computed, expected: Option<i16>) -> bool {
+fn operand(alloc: Global, base: u32, n: i32) -> Mem<AVal> {
+    if base == 0 {
+        Ok(number(n))
+    } else {
+        byte(alloc, base, n)
+    }
+}
+
+fn answer(alloc: Global, question: Question, row: &Pair) -> Mem<Computed> {
+    let left = operand(alloc, row.left, row.from)?;
+    let right = operand(alloc, row.right, row.to)?;
+    ask(alloc, question, &left, &right)
+}
+
+/// The kind of what is undefined.
+fn kind_of(question: Question) -> Kind {
+    match question {
+        Question::Distance => Kind::DifferingBlocks,
+        Question::Order => Kind::PtrComparison,
+        Question::Equality => Kind::PtrComparison,
+    }
+}
+
+fn is_right(answer: &Computed, question: Question, expected: Option<i16>) -> bool {
     match expected {
-        None => is_undefined(answer, Kind::PtrComparison)
-            || is_undefined(answer, Kind::DifferingBlocks),
+        None => is_undefined(answer, kind_of(question)),
         Some(n) => is_defined(answer, n as i32),
     }
 }
 
 fn all_right(alloc: Global, question: Question, table: &[Pair]) -> Mem<bool> {
     for row in table {
-        let left = byte(alloc, row.left, row.from)?;
-        let right = byte(alloc, row.right, row.to)?;
-        let answer = ask(alloc, question, &left, &right)?;
-        if !is_right(&answer, row.expected) {
+        if !is_right(&answer(alloc, question, row)?, question, row.expected) {
             return Ok(false);
         }
     }
@@ -159,7 +185,9 @@ fn differences(alloc: Global) -> Mem<bool> {
         pair_of(2, 16, 2, 4, Some(3)),
         pair_of(2, 6, 2, 0, Some(1)),
         pair_of(1, 0, 2, 16, None),
+        pair_of(1, 0, 2, 0, None),
         pair_of(1, 12, 1, 8, None),
+        pair_of(1, 12, 1, 0, None),
     ];
     all_right(alloc, Question::Distance, &table)
 }
@@ -167,11 +195,13 @@ fn differences(alloc: Global) -> Mem<bool> {
 fn orders(alloc: Global) -> Mem<bool> {
     let table = [
         pair_of(1, 0, 1, 4, Some(1)),
+        pair_of(1, 0, 1, 8, Some(1)),
         pair_of(1, 4, 1, 4, Some(0)),
         pair_of(2, 16, 2, 0, Some(0)),
         pair_of(2, 0, 2, 16, Some(1)),
         pair_of(1, 0, 2, 0, None),
         pair_of(1, 12, 1, 0, None),
+        pair_of(1, 0, 0, 0, None),
     ];
     all_right(alloc, Question::Order, &table)
 }
@@ -180,11 +210,15 @@ fn orders(alloc: Global) -> Mem<bool> {
 fn equalities(alloc: Global) -> Mem<bool> {
     let table = [
         pair_of(1, 4, 1, 4, Some(1)),
+        pair_of(1, 0, 2, 0, Some(0)),
+        pair_of(1, 0, 0, 0, Some(0)),
         pair_of(2, 16, 2, 0, Some(0)),
         pair_of(1, 0, 2, 15, Some(0)),
         pair_of(2, 0, 1, 7, Some(0)),
         pair_of(2, 16, 1, 0, None),
+        pair_of(1, 8, 2, 0, None),
         pair_of(1, -4, 2, 0, None),
+        pair_of(1, 0, 0, 1, None),
     ];
     all_right(alloc, Question::Equality, &table)
 }
