@@ -1,4 +1,0 @@
-pub mod Language
-pub mod Place
-pub mod Sums
-pub mod Views
