@@ -1,7 +1,3 @@
-use crate::building::{
-    assign, base, both, call, initialised, int, int_function, load, one, program, run, while_loop,
-    with,
-};
 use c_base::number::{BaseId, StmtId};
 use c_base::operators::BinOp;
 use c_program::base::BaseSort;
@@ -12,6 +8,10 @@ use c_weights::weight;
 use sqlite_items::Items;
 use std::alloc::Global;
 use std::test::Fail;
+use typed_parts::building::{
+    assign, base, both, call, initialised, int, int_function, load, one, program, run, while_loop,
+    with,
+};
 
 fn increment(alloc: Global) -> Mem<Stmt> {
     let sum = run(alloc, 1, BinOp::Add, 1)?;

@@ -52,7 +52,7 @@ pub fn number(n: i128) -> TExpr {
     TExpr::Const(n, IntKind::Int)
 }
 
-fn object(alloc: Global, base: u32) -> Mem<Boxed<TLval>> {
+pub fn object(alloc: Global, base: u32) -> Mem<Boxed<TLval>> {
     Boxed::new(
         alloc,
         TLval {
@@ -66,7 +66,7 @@ pub fn load(alloc: Global, base: u32) -> Mem<TExpr> {
     Ok(TExpr::Value(object(alloc, base)?, int()))
 }
 
-fn operand(operator: BinOp, operand: TExpr) -> TOperand {
+pub fn operand(operator: BinOp, operand: TExpr) -> TOperand {
     TOperand {
         operator,
         converts: false,
