@@ -16,7 +16,7 @@ use Rattle.avalue_base.specs.Values.{AVal, Separate}
 use Rattle.avalue_base.specs.Meaning.{Means}
 use Rattle.aops.specs.Integers.{AreOperands, integer_value, integer_value_kinds}
 use Rattle.aops.specs.Numbers.{rel_of}
-use Rattle.aops_pointers.specs.Moves.{moved_value}
+use Rattle.aops_pointers.specs.Moved.{moved_value}
 use Rattle.aops_relations.specs.declared.comparisons.Verdict.{Verdict}
 use Rattle.aops_relations.specs.Comparisons.{judged, unknown}
 use Rattle.aops_relations.specs.Differences.{differed}

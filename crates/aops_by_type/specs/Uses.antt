@@ -7,23 +7,21 @@ use Rattle.c_memory.specs.Layouts.{Layout}
 use Rattle.c_memory.specs.Values.{Value, plain}
 use Rattle.ival_core.specs.declared.value.Ival.{Ival}
 use Rattle.ival_core.specs.Ivals.{Holds}
-use Rattle.ival_core.specs.Sets.{IsNumber}
 use Rattle.avalue_base.specs.Values.{AVal, Separate, Mixed}
 use Rattle.avalue_base.specs.Meaning.{IsWord}
 use Rattle.avalue_base.specs.Singles.{is_single_value}
 use Rattle.aops.specs.Integers.{Cause}
 use Rattle.aops.specs.Soles.{is_single_number, NarrowValue}
-use Rattle.aops_pointers.specs.Moves.{KeepsNear}
+use Rattle.aops_pointers.specs.Moved.{KeepsNear}
 use Rattle.aops_relations.specs.Soles.{has_near_offsets}
 use Rattle.aops_by_type.specs.declared.binary.Operand.{Operand}
 use Rattle.aops_by_type.specs.declared.binary.Operand.TheVariants.{Integer, Pointer}
 use Rattle.aops_by_type.specs.Typed.{is_difference, result_of}
 
--- one pointer, moved by one count of elements of so many bytes to an offset that is kept (C11 6.5.6p8)
+-- one pointer, moved by one count of elements of so many bytes, an address to an offset that is kept (C11 6.5.6p8)
 pub record IsMoved (back : Bool) (size : ℕ) (pointer count : AVal) (y : Value) : Type 0 where
   pub pointer_single : is_single_value pointer ≡ true
   pub count_single : is_single_number count ≡ true
-  pub bytes : IsNumber (y.number *ℤ pos size)
   pub near : KeepsNear back (y.number *ℤ pos size) pointer
 
 -- two single pointers, with offsets that are kept (C11 6.5.6p9, 6.5.8, 6.5.9)

@@ -1,3 +1,4 @@
 pub mod Images
+pub mod Lone
 pub mod Moving
 pub mod Sole

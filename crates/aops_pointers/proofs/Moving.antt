@@ -37,7 +37,7 @@ use Rattle.avalue_base.proofs.Meets.{set_same}
 use Rattle.avalue_values.specs.Views.{numbers_in, numbers_alone, addresses_of}
 use Rattle.avalue_values.proofs.Values.{some_is}
 use Rattle.aops.proofs.Giving.{means_bases, from_either}
-use Rattle.aops_pointers.specs.Moves.{at_number, summed, moved_by, option_set, in_bytes, sum_of, or_words, is_near_sum, stays_near, moved_address, moved_numbers, of_bases, shifted, shifted_by, moved_value}
+use Rattle.aops_pointers.specs.Moves.{at_number, summed, moved_by, option_set, in_bytes, sum_of, or_words, is_near_sum, stays_near, moved_address, moved_numbers, of_bases, shifted, shifted_by, moved_sets}
 use Rattle.aops_pointers.proofs.Images.{image_holds}
 
 -- ---- sets
@@ -71,19 +71,27 @@ empty_not : (b : Bool) → not b ≡ true → b ≡ false
 empty_not true h = cc
 empty_not false h = refl
 
+-- numbers whose left parts leave the same residue
+pub left_residue : (m : ℕ) → 0 < m → (back : Bool) (a k : ℤ) → residue m (summed back (pos (residue m a)) k) ≡ residue m (summed back a k)
+left_residue m h true a k =
+    let d = Same-residue m a h in
+    sym (residue_same m (a -ℤ k) (pos (residue m a) -ℤ k) h (record { times = d.times; is = less a k (pos (residue m a)) (d.times *ℤ pos m) d.is }))
+  where
+    less : (a k r q : ℤ) → a ≡ r +ℤ q → a -ℤ k ≡ (r -ℤ k) +ℤ q
+    less a k r q e = omega (arith, ints)
+left_residue m h false a k =
+    let d = Same-residue m a h in
+    sym (residue_same m (a +ℤ k) (pos (residue m a) +ℤ k) h (record { times = d.times; is = more a k (pos (residue m a)) (d.times *ℤ pos m) d.is }))
+  where
+    more : (a k r q : ℤ) → a ≡ r +ℤ q → a +ℤ k ≡ (r +ℤ k) +ℤ q
+    more a k r q e = omega (arith, ints)
+
+summed_behind : (back : Bool) (base o k : ℤ) → summed back (base +ℤ o) k ≡ base +ℤ summed back o k
+summed_behind true base o k = omega (arith, ints)
+summed_behind false base o k = omega (arith, ints)
+
 shift_residue : (m : ℕ) → 0 < m → (back : Bool) (base o k : ℤ) → residue m (summed back (pos (residue m (base +ℤ o))) k) ≡ residue m (base +ℤ summed back o k)
-shift_residue m h true base o k =
-    let d = Same-residue m (base +ℤ o) h in
-    sym (residue_same m (base +ℤ (o -ℤ k)) (pos (residue m (base +ℤ o)) -ℤ k) h (record { times = d.times; is = less base o k (pos (residue m (base +ℤ o))) (d.times *ℤ pos m) d.is }))
-  where
-    less : (base o k r q : ℤ) → base +ℤ o ≡ r +ℤ q → base +ℤ (o -ℤ k) ≡ (r -ℤ k) +ℤ q
-    less base o k r q e = omega (arith, ints)
-shift_residue m h false base o k =
-    let d = Same-residue m (base +ℤ o) h in
-    sym (residue_same m (base +ℤ (o +ℤ k)) (pos (residue m (base +ℤ o)) +ℤ k) h (record { times = d.times; is = more base o k (pos (residue m (base +ℤ o))) (d.times *ℤ pos m) d.is }))
-  where
-    more : (base o k r q : ℤ) → base +ℤ o ≡ r +ℤ q → base +ℤ (o +ℤ k) ≡ (r +ℤ k) +ℤ q
-    more base o k r q e = omega (arith, ints)
+shift_residue m h back base o k = left_residue m h back (base +ℤ o) k ∙ ap (residue m) (summed_behind back base o k)
 
 module _ (back : Bool) (steps : Ival) where
   moved_ascending : (xs : List Address) → AreAscending base_of xs → AreAscending base_of (map (moved_address back steps) xs)
@@ -209,12 +217,12 @@ pub blend_holds : (l : Layout) (back : Bool) (machine : Machine) (size : ℕ) (v
 blend_holds l true machine size v w u x y e m n = subst (λ z. Means l z (moved_by true machine size x y)) (sym e) (λ q h. from_either l v w x y m n q h)
 blend_holds l false machine size v w u x y e m n = subst (λ z. Means l z (moved_by false machine size x y)) (sym e) (λ q h. from_either l v w x y m n q h)
 
-pub blend_is : (back : Bool) (machine : Machine) (size : ℕ) (v w : AVal) → numbers_alone w ≡ None → Mixed (union_of (bases_of v) (bases_of w)) ≡ moved_value back machine size v w
+pub blend_is : (back : Bool) (machine : Machine) (size : ℕ) (v w : AVal) → numbers_alone w ≡ None → Mixed (union_of (bases_of v) (bases_of w)) ≡ moved_sets back machine size v w
 blend_is back machine size v (Separate ms []) e = cc
 blend_is back machine size v (Separate ms (y ∷ ys)) e = refl
 blend_is back machine size v (Mixed cs) e = refl
 
-pub counts_are : (back : Bool) (machine : Machine) (size : ℕ) (v w : AVal) (n : Ival) → numbers_alone w ≡ Some n → shifted_by back machine v (in_bytes size n) ≡ moved_value back machine size v w
+pub counts_are : (back : Bool) (machine : Machine) (size : ℕ) (v w : AVal) (n : Ival) → numbers_alone w ≡ Some n → shifted_by back machine v (in_bytes size n) ≡ moved_sets back machine size v w
 counts_are back machine size v (Separate ms []) n e = ap (λ z. shifted_by back machine v (in_bytes size z)) (sym (some_is ms n e))
 counts_are back machine size v (Separate ms (y ∷ ys)) n e = cc
 counts_are back machine size v (Mixed cs) n e = cc

@@ -24,7 +24,7 @@ use Rattle.aops.specs.Soles.{is_single_number, IsAlone}
 use Rattle.aops.proofs.Soles.{some_only, single_alone, number_only, one_alone}
 use Rattle.aops.proofs.Giving.{means_alone}
 use Rattle.aops.proofs.Alone.{numbers_alone_one}
-use Rattle.aops_pointers.specs.Moves.{summed, sum_of, or_words, is_near_sum, stays_near, moved_address, IsNear, KeepsNear}
+use Rattle.aops_pointers.specs.Moves.{summed, sum_of, or_words, is_near_sum, stays_near, moved_address, IsNear, IsKept}
 use Rattle.aops_pointers.proofs.Images.{image_single, image_none}
 
 near_number : (n : ℤ) → IsNear n → IsNumber n
@@ -76,7 +76,7 @@ module _ (back : Bool) (steps : Ival) (k : ℤ) (only : IsOnly steps k) where
   near_address : (a : Address) → Moved a → stays_near back steps a ≡ true
   near_address a m = ap is_near_sum m.is ∙ near_one m.set m.offset m.one m.near
 
-  pub stay_single : (v : AVal) (ns : Ival) (us : List Address) → numbers_in v ≡ Some ns → us ≡ addresses_of v → is_single_value v ≡ true → KeepsNear back k v → list_all (stays_near back steps) us ≡ false → ⊥
+  pub stay_single : (v : AVal) (ns : Ival) (us : List Address) → numbers_in v ≡ Some ns → us ≡ addresses_of v → is_single_value v ≡ true → IsKept back k v → list_all (stays_near back steps) us ≡ false → ⊥
   stay_single (Separate ms []) ns us e f h n g = no (list_all (stays_near back steps) us) (ap (list_all (stays_near back steps)) f) g
     where
       no : (t : Bool) → t ≡ true → t ≡ false → ⊥
@@ -91,7 +91,7 @@ module _ (back : Bool) (steps : Ival) (k : ℤ) (only : IsOnly steps k) where
   stay_single (Separate ms (a ∷ b ∷ xs)) ns us e f h n g = cc
   stay_single (Mixed bs) ns us e f h n g = cc
 
-  pub separate_alone : (machine : Machine) (l : Layout) (v : AVal) (ns w : Ival) (us zs : List Address) → numbers_in v ≡ Some ns → us ≡ addresses_of v → zs ≡ map (moved_address back steps) us → is_single_value v ≡ true → KeepsNear back k v →
+  pub separate_alone : (machine : Machine) (l : Layout) (v : AVal) (ns w : Ival) (us zs : List Address) → numbers_in v ≡ Some ns → us ≡ addresses_of v → zs ≡ map (moved_address back steps) us → is_single_value v ≡ true → IsKept back k v →
       ((n : ℤ) → IsOnly ns n → IsNumber (summed back n k) → IsOnly w (address_number machine (summed back n k))) → (is_empty ns.shape ≡ true → is_empty w.shape ≡ true) → IsAlone l (Separate w zs)
   separate_alone machine l (Separate ms []) ns w us zs e f g h n single none =
       let d : ms ≡ ns = cc in

@@ -1,2 +1,4 @@
 pub mod Images
+pub mod Moved
 pub mod Moves
+pub mod Singles

@@ -85,10 +85,10 @@ shifted_by back machine v None = of_bases (bases_of v)
 shifted_by back machine v (Some steps) = cond (is_empty steps.shape) no_value (shifted back machine steps v)
 
 -- by counts of elements of so many bytes
-abbrev pub moved_value : Bool → Machine → ℕ → AVal → AVal → AVal
-moved_value back machine size v (Separate counts []) = shifted_by back machine v (in_bytes size counts)
-moved_value back machine size v (Separate counts (a ∷ addresses)) = Mixed (union_of (bases_of v) (bases_of (Separate counts (a ∷ addresses))))
-moved_value back machine size v (Mixed bases) = Mixed (union_of (bases_of v) bases)
+abbrev pub moved_sets : Bool → Machine → ℕ → AVal → AVal → AVal
+moved_sets back machine size v (Separate counts []) = shifted_by back machine v (in_bytes size counts)
+moved_sets back machine size v (Separate counts (a ∷ addresses)) = Mixed (union_of (bases_of v) (bases_of (Separate counts (a ∷ addresses))))
+moved_sets back machine size v (Mixed bases) = Mixed (union_of (bases_of v) bases)
 
 -- an offset that is kept
 pub record IsNear (n : ℤ) : Type 0 where
@@ -96,7 +96,7 @@ pub record IsNear (n : ℤ) : Type 0 where
   pub greatest : n ≤ℤ pos (2 ^ 62)
 
 -- moved by k bytes, an address keeps its offset, and a number is one that a set may hold
-abbrev pub KeepsNear : Bool → ℤ → AVal → Type 0
-KeepsNear back k (Separate ns []) = (n : ℤ) → Holds ns n → IsNumber (summed back n k)
-KeepsNear back k (Separate ns (a ∷ addresses)) = (o : ℤ) → Holds a.offsets o → IsNear (summed back o k)
-KeepsNear back k (Mixed bases) = Unit {0}
+abbrev pub IsKept : Bool → ℤ → AVal → Type 0
+IsKept back k (Separate ns []) = (n : ℤ) → Holds ns n → IsNumber (summed back n k)
+IsKept back k (Separate ns (a ∷ addresses)) = (o : ℤ) → Holds a.offsets o → IsNear (summed back o k)
+IsKept back k (Mixed bases) = Unit {0}

@@ -2,5 +2,6 @@
 #![tactic(auto)]
 
 mod moves;
+mod singles;
 
 pub use moves::moved;

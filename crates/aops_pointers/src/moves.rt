@@ -12,8 +12,10 @@ ghost use Rattle.avalue_base.specs.Values.{bases_of};
 ghost use Rattle.avalue_base.specs.Singles.{is_single_value};
 ghost use Rattle.aops.specs.Soles.{IsAlone, is_single_number};
 ghost use Rattle.c_pointers.specs.Conversions.{address_number};
-ghost use Rattle.aops_pointers.specs.Moves.{KeepsNear, at_number, in_bytes, is_near_sum, moved_address, moved_by, moved_numbers, moved_value, of_bases, or_words, shifted, shifted_by, stays_near, sum_of, summed};
+ghost use Rattle.aops_pointers.specs.Moved.{KeepsNear, moved_value};
+ghost use Rattle.aops_pointers.specs.Moves.{IsKept, at_number, in_bytes, is_near_sum, moved_address, moved_by, moved_numbers, moved_sets, of_bases, or_words, shifted, shifted_by, stays_near, sum_of, summed};
 
+use crate::singles::one_moved;
 use aops::{pointer_bits, wrapped};
 use avalue_parts::{Address, is_near, is_none};
 use avalue_values::{AVal, Mem};
@@ -127,7 +129,7 @@ fn shifted(alloc: Global, back: bool, m: Machine, a: &AVal, steps: &Ival) -> Mem
     ensures value { IfOk result (λ v. v ≡ shifted back m steps.now a.now) }
     ensures holds { IfOk result (λ v. (l : Layout) (x : Value) (k : ℤ) → l.machine ≡ m → Means l a.now x → Holds steps.now k
         → Means l v (at_number l.machine (summed back x.number k) x)) }
-    ensures alone { IfOk result (λ v. (l : Layout) (k : ℤ) → is_single_value a.now ≡ true → IsOnly steps.now k → KeepsNear back k a.now → IsAlone l v) }
+    ensures alone { IfOk result (λ v. (l : Layout) (k : ℤ) → is_single_value a.now ≡ true → IsOnly steps.now k → IsKept back k a.now → IsAlone l v) }
 {
     match a.numbers() {
         None => a.duplicate(alloc),
@@ -147,7 +149,7 @@ fn shifted_by(alloc: Global, back: bool, m: Machine, a: &AVal, steps: &Option<Iv
     ensures holds { IfOk result (λ v. (l : Layout) (x : Value) (k : ℤ) → l.machine ≡ m → Means l a.now x → IfSome steps.now (λ s. Holds s k)
         → Means l v (at_number l.machine (summed back x.number k) x)) }
     ensures alone { IfOk result (λ v. (l : Layout) (s : Ival) (k : ℤ) → steps.now ≡ Some s → is_single_value a.now ≡ true → IsOnly s k →
-        KeepsNear back k a.now → IsAlone l v) }
+        IsKept back k a.now → IsAlone l v) }
 {
     match steps {
         None => of_bases(alloc, a),
@@ -160,6 +162,28 @@ fn shifted_by(alloc: Global, back: bool, m: Machine, a: &AVal, steps: &Option<Iv
     }
 }
 
+/// Sets of pointers moved by sets of counts. Where an address may leave its base by more than 2^62 bytes, only the bases are told.
+fn moved_sets(
+    alloc: Global,
+    back: bool,
+    m: Machine,
+    size: u64,
+    a: &AVal,
+    counts: &AVal,
+) -> Mem<AVal>
+    ensures value { IfOk result (λ v. v ≡ moved_sets back m size a.now counts.now) }
+    ensures holds { IfOk result (λ v. (l : Layout) (x y : Value) → l.machine ≡ m → Means l a.now x → Means l counts.now y
+        → Means l v (moved_by back m size x y)) }
+    ensures sole { IfOk result (λ v. (l : Layout) (x y z : Value) → l.machine ≡ m → is_single_value a.now ≡ true → is_single_number counts.now ≡ true →
+        Means l a.now x → Means l counts.now y → IsNumber (y.number *ℤ pos size) → IsKept back (y.number *ℤ pos size) a.now
+        → Means l v z ↔ (z ≡ moved_by back m size x y)) }
+{
+    match counts.numbers_alone() {
+        None => a.blend(alloc, counts),
+        Some(numbers) => shifted_by(alloc, back, m, a, &in_bytes(size, numbers)),
+    }
+}
+
 /// The pointers moved forwards, or back, by counts of elements of so many bytes (C11 6.5.6p8). Where an address may leave its base by more than 2^62
 /// bytes, only the bases are told. Of a single pointer and a single count there is the one pointer alone.
 pub fn moved(alloc: Global, back: bool, m: Machine, size: u64, a: &AVal, counts: &AVal) -> Mem<AVal>
@@ -167,11 +191,11 @@ pub fn moved(alloc: Global, back: bool, m: Machine, size: u64, a: &AVal, counts:
     ensures holds { IfOk result (λ v. (l : Layout) (x y : Value) → l.machine ≡ m → Means l a.now x → Means l counts.now y
         → Means l v (moved_by back m size x y)) }
     ensures sole { IfOk result (λ v. (l : Layout) (x y z : Value) → l.machine ≡ m → is_single_value a.now ≡ true → is_single_number counts.now ≡ true →
-        Means l a.now x → Means l counts.now y → IsNumber (y.number *ℤ pos size) → KeepsNear back (y.number *ℤ pos size) a.now
+        Means l a.now x → Means l counts.now y → KeepsNear back (y.number *ℤ pos size) a.now
         → Means l v z ↔ (z ≡ moved_by back m size x y)) }
 {
-    match counts.numbers_alone() {
-        None => a.blend(alloc, counts),
-        Some(numbers) => shifted_by(alloc, back, m, a, &in_bytes(size, numbers)),
+    match one_moved(back, m, size, a, counts) {
+        Some(number) => Ok(AVal::number(number)),
+        None => moved_sets(alloc, back, m, size, a, counts),
     }
 }

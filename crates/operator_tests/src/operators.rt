@@ -6,6 +6,7 @@ use avalue_values::{AVal, Mem};
 use c_base::integer::{IntKind, Machine};
 use c_base::kind::Kind;
 use c_base::operators::BinOp;
+use ival_core::Ival;
 use pointer_tests::places::{Two, byte, is_mix, is_number, number};
 use std::alloc::Global;
 
@@ -103,6 +104,32 @@ fn leaves_by_address(alloc: Global) -> Mem<bool> {
     leaves(alloc, &count)
 }
 
+/// A pointer to elements of so many bytes that some counts of them are more bytes than a set may hold.
+const FAR: Operand = Operand::Pointer(3 << 60);
+
+fn far_plus(alloc: Global, a: &AVal, b: &AVal) -> Mem<Computed> {
+    abs_binary(alloc, BinOp::Add, FAR, LONG, Machine::Lp64, &Two, a, b)
+}
+
+fn far_minus(alloc: Global, a: &AVal, b: &AVal) -> Mem<Computed> {
+    abs_binary(alloc, BinOp::Sub, FAR, LONG, Machine::Lp64, &Two, a, b)
+}
+
+fn is_only(v: &AVal, n: i128) -> bool {
+    match v.numbers_alone() {
+        None => false,
+        Some(numbers) => numbers.as_single() == Some(n),
+    }
+}
+
+/// The pointer 5, made from no address: 3 times 2 to the 60, times 2 to the 62 and one more, leaves 3 times 2 to the 60 modulo 2 to the 64.
+fn numbers_move_far(alloc: Global) -> Mem<bool> {
+    let count = AVal::number(Ival::single((1 << 62) + 1));
+    let up = far_plus(alloc, &number(5), &count)?;
+    let down = far_minus(alloc, &number(5), &count)?;
+    Ok(is_only(&up.value, (3 << 60) + 5) && is_only(&down.value, (13 << 60) + 5))
+}
+
 /// 2 to the 30 elements are near, and 2 to the 30 times almost 2 to the 31 aren't.
 fn far_moves(alloc: Global) -> Mem<bool> {
     Ok(!leaves(alloc, &number(1 << 30))? && leaves_far(alloc)? && leaves_by_address(alloc)?)
@@ -129,6 +156,11 @@ fn null_tests(alloc: Global) -> Mem<bool> {
 #[test]
 fn far_moves_leave_the_base(rt: HostRuntime) {
     assert!(rt; far_moves(rt.alloc()) == Ok(true));
+}
+
+#[test]
+fn numbers_that_are_pointers_move_any_way(rt: HostRuntime) {
+    assert!(rt; numbers_move_far(rt.alloc()) == Ok(true));
 }
 
 #[test]
