@@ -33,6 +33,19 @@ fn flags(alloc: Global) -> Mem<bool> {
     )
 }
 
+fn common_flags(alloc: Global) -> Mem<bool> {
+    let both = pointer(alloc)?.join(alloc, &unwritten())?;
+    let left = both.meet(alloc, &unwritten())?;
+    let kept = both.meet(alloc, &pointer(alloc)?)?;
+    Ok(
+        left.is_blank()
+            && left.uninit
+            && !kept.is_blank()
+            && !kept.uninit
+            && pointer(alloc)?.included(&kept),
+    )
+}
+
 fn deaths(alloc: Global) -> Mem<bool> {
     let cell = pointer(alloc)?.duplicate(alloc)?;
     let gone = cell.forget_base(alloc, BaseId(1))?;
@@ -43,6 +56,11 @@ fn deaths(alloc: Global) -> Mem<bool> {
 #[test]
 fn flags_join(rt: HostRuntime) {
     assert!(rt; flags(rt.alloc()) == Ok(true));
+}
+
+#[test]
+fn flags_meet(rt: HostRuntime) {
+    assert!(rt; common_flags(rt.alloc()) == Ok(true));
 }
 
 #[test]

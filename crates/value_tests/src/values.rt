@@ -80,6 +80,31 @@ fn inclusions(alloc: Global) -> Mem<bool> {
     )
 }
 
+/// Byte 8 of base 2 and byte 1 of base 3, and 7.
+fn other(alloc: Global) -> Mem<AVal> {
+    let first = AVal::address(alloc, BaseId(2), Ival::single(8))?;
+    let second = AVal::address(alloc, BaseId(3), Ival::single(1))?;
+    first
+        .join(alloc, &second)?
+        .join(alloc, &AVal::number(Ival::single(7)))
+}
+
+fn meets(alloc: Global) -> Mem<bool> {
+    let all = sample(alloc)?;
+    let both = all.meet(alloc, &other(alloc)?)?;
+    let mix = AVal::mix(alloc, &[BaseId(3), BaseId(5)])?;
+    let mixed = mix.meet(alloc, &all)?;
+    Ok(
+        has_number(&both, 7)
+            && has_address(&both, 1, 2, 8)
+            && !has_address(&both, 1, 2, 0)
+            && ends_at(&both, 2)
+            && has_number(&mixed, 7)
+            && has_address(&mixed, 1, 5, 4)
+            && ends_at(&mixed, 2),
+    )
+}
+
 fn mixes(alloc: Global) -> Mem<bool> {
     let mix = AVal::mix(alloc, &[BaseId(5), BaseId(2), BaseId(5)])?;
     let more = mix.join(alloc, &AVal::address(alloc, BaseId(3), Ival::single(1))?)?;
@@ -103,6 +128,11 @@ fn values_join(rt: HostRuntime) {
 #[test]
 fn values_are_compared(rt: HostRuntime) {
     assert!(rt; inclusions(rt.alloc()) == Ok(true));
+}
+
+#[test]
+fn values_meet(rt: HostRuntime) {
+    assert!(rt; meets(rt.alloc()) == Ok(true));
 }
 
 #[test]

@@ -1,5 +1,0 @@
-use Rattle.c_stepper.proofs.Starting.{IsPackedTo}
-use Rattle.c_stepper.proofs.start.packed.Given as goal
-
-abbrev pub invariant-loop-base : goal.invariant-loop-base
-invariant-loop-base l = IsPackedTo l.program.machine l.base-items l.base-index l.objects l.address
