@@ -1,9 +1,15 @@
-//! Tests of the meaning of programs: typed programs are stepped through from their start to their end.
+//! Tests of the meaning of programs: typed programs, as words, are stepped through from their start to their end.
 #![tactic(auto)]
 
 #[cfg(test)]
-mod expressions;
+mod calls;
+#[cfg(test)]
+mod memory;
+#[cfg(test)]
+mod operators;
 #[cfg(test)]
 mod runs;
 #[cfg(test)]
 mod statements;
+#[cfg(test)]
+mod undefined;

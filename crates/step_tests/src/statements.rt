@@ -1,145 +1,103 @@
 //! Statements (C11 6.8).
 
-use crate::runs::{returns, stops};
-use c_base::kind::Kind;
-use c_base::operators::BinOp;
-use c_program::program::Stmt;
-use c_typed_expr::expr::TExpr;
-use c_typed_stmt::stmt::LoopSort;
-use c_types::duplicate::Mem;
-use sqlite_items::Items;
-use std::alloc::Global;
+use crate::runs::{as_expected, gives};
 use std::test::Fail;
-use typed_parts::building::{assign, initialised, load, number, with};
-use typed_parts::expressions::{
-    address, assign_pointer, binary, compound, pointed, step_after, value_at,
-};
-use typed_parts::statements::{
-    block, break_off, case, continue_on, expression, for_loop, goto, if_then, label, loop_of,
-    return_value, switch,
-};
-
-fn n(value: i128) -> Mem<TExpr> {
-    Ok(number(value))
-}
-
-fn set(alloc: Global, base: u32, value: i128) -> Mem<TExpr> {
-    assign(alloc, base, number(value))
-}
-
-fn below(alloc: Global, base: u32, value: i128) -> Mem<TExpr> {
-    binary(alloc, BinOp::Lt, load(alloc, base), n(value))
-}
-
-/// `x += value;`
-fn add(alloc: Global, id: u32, value: i128) -> Mem<Stmt> {
-    expression(id, compound(alloc, 1, BinOp::Add, n(value)))
-}
-
-/// `x = 0; s return x;`
-fn counted(alloc: Global, s: Mem<Stmt>) -> Mem<Items<Stmt>> {
-    let all = with(Ok(Items::new(alloc)), expression(1, set(alloc, 1, 0)));
-    let all = with(all, s);
-    with(all, return_value(2, load(alloc, 1)))
-}
 
 #[test]
 fn loops_turn_while_their_condition_holds(rt: HostRuntime) -> Result<(), Fail> {
-    let alloc = rt.alloc();
-    let each = loop_of(
-        alloc,
-        LoopSort::While,
-        5,
-        below(alloc, 1, 10_000),
-        add(alloc, 6, 3),
-    );
-    assert!(rt; returns(alloc, counted(alloc, each), 10_002));
-    let once = loop_of(alloc, LoopSort::Do, 5, n(0), add(alloc, 6, 3));
-    assert!(rt; returns(alloc, counted(alloc, once), 3));
-    let never = loop_of(alloc, LoopSort::While, 5, n(0), add(alloc, 6, 3));
-    assert!(rt; returns(alloc, counted(alloc, never), 0));
+    let rows = [
+        gives("x 0 = ; x 10000 < x 3 += ; while x return", 10002),
+        gives("x 0 = ; 0 x 3 += ; do x return", 3),
+        gives("x 0 = ; 0 x 3 += ; while x return", 0),
+        gives("y 0 = ; x 0 = x 5 < x x++ y x += ; for y return", 10),
+        gives("x 0 = ; { x x++ ; x 7 == break if } for(;;) x return", 7),
+    ];
+    assert_eq!(rt; as_expected(rt.alloc(), &rows)?, rows.len());
     Ok(())
-}
-
-/// `{ if (y < from) continue; if (y == 8) break; x += y; }`
-fn some_turns(alloc: Global, from: i128) -> Mem<Stmt> {
-    let all = with(
-        Ok(Items::new(alloc)),
-        if_then(alloc, 10, below(alloc, 2, from), continue_on(11)),
-    );
-    let is_eight = binary(alloc, BinOp::Eq, load(alloc, 2), n(8));
-    let all = with(all, if_then(alloc, 12, is_eight, break_off(13)));
-    let sum = compound(alloc, 1, BinOp::Add, load(alloc, 2));
-    block(alloc, &[], with(all, expression(14, sum)))
 }
 
 #[test]
 fn continue_and_break_leave_a_turn_and_a_loop(rt: HostRuntime) -> Result<(), Fail> {
-    let alloc = rt.alloc();
-    let (first, next) = (set(alloc, 2, 0), step_after(alloc, 2, true));
-    let each = for_loop(
-        alloc,
-        first,
-        below(alloc, 2, 100),
-        next,
-        some_turns(alloc, 5),
-    );
-    assert!(rt; returns(alloc, counted(alloc, each), 18));
+    let rows = [
+        gives(
+            "x 0 = ; y 0 = y 100 < y x++ { y 5 < continue if y 8 == break if x y += ; } for x return",
+            18,
+        ),
+        gives(
+            "x 0 = ; y 0 = ; y 5 < { y x++ ; y 3 == continue if x y += ; } do x return",
+            12,
+        ),
+        gives(
+            "x 0 = ; x 9 < { { x x++ ; break } for(;;) x x++ ; } while x return",
+            10,
+        ),
+    ];
+    assert_eq!(rt; as_expected(rt.alloc(), &rows)?, rows.len());
     Ok(())
 }
 
-/// `switch (value) { case 1: x += 1; case 2: x += 10; break; default: x += 100; }`
-fn choice(alloc: Global, value: i128) -> Mem<Stmt> {
-    let all = with(
-        Ok(Items::new(alloc)),
-        case(alloc, Some(1), add(alloc, 21, 1)),
-    );
-    let all = with(all, case(alloc, Some(2), add(alloc, 22, 10)));
-    let all = with(all, break_off(23));
-    let all = with(all, case(alloc, None, add(alloc, 24, 100)));
-    switch(alloc, 20, n(value), block(alloc, &[], all))
+#[test]
+fn an_if_takes_one_branch(rt: HostRuntime) -> Result<(), Fail> {
+    let rows = [
+        gives("1 2 return if 3 return", 2),
+        gives("0 2 return if 3 return", 3),
+        gives("0 2 return if 3 return else", 3),
+        gives(
+            "x 2 = ; x 1 == 10 return if x 2 == 20 return joins if 30 return else",
+            20,
+        ),
+        gives(
+            "x 3 = ; x 1 == 10 return if x 2 == 20 return joins if 30 return else",
+            30,
+        ),
+    ];
+    assert_eq!(rt; as_expected(rt.alloc(), &rows)?, rows.len());
+    Ok(())
 }
 
 #[test]
 fn a_switch_falls_through(rt: HostRuntime) -> Result<(), Fail> {
-    let alloc = rt.alloc();
-    assert!(rt; returns(alloc, counted(alloc, choice(alloc, 1)), 11));
-    assert!(rt; returns(alloc, counted(alloc, choice(alloc, 2)), 10));
-    assert!(rt; returns(alloc, counted(alloc, choice(alloc, 3)), 100));
+    let rows = [
+        gives(
+            "x 0 = ; 1 { x 1 += ; 1 case x 10 += ; 2 case break x 100 += ; default } switch x return",
+            11,
+        ),
+        gives(
+            "x 0 = ; 2 { x 1 += ; 1 case x 10 += ; 2 case break x 100 += ; default } switch x return",
+            10,
+        ),
+        gives(
+            "x 0 = ; 3 { x 1 += ; 1 case x 10 += ; 2 case break x 100 += ; default } switch x return",
+            100,
+        ),
+        gives("x 0 = ; 3 { x 1 += ; 1 case } switch x return", 0),
+    ];
+    assert_eq!(rt; as_expected(rt.alloc(), &rows)?, rows.len());
     Ok(())
 }
 
-/// `{ int z = 5; p = &z; goto out; }`
-fn left_by_a_jump(alloc: Global) -> Mem<Stmt> {
-    let all = with(Ok(Items::new(alloc)), initialised(alloc, 30, 3, 5));
-    let all = with(
-        all,
-        expression(31, assign_pointer(alloc, 4, address(alloc, 3))),
-    );
-    block(alloc, &[3], with(all, goto(alloc, 32, b"out")))
-}
-
-/// `{ int z = 5; p = &z; goto out; } x = 9; out: x += 1; return ..;`
-fn jumping(alloc: Global, e: Mem<TExpr>) -> Mem<Items<Stmt>> {
-    let all = with(Ok(Items::new(alloc)), expression(1, set(alloc, 1, 0)));
-    let all = with(all, left_by_a_jump(alloc));
-    let all = with(all, expression(2, set(alloc, 1, 9)));
-    let all = with(all, label(alloc, b"out", add(alloc, 3, 1)));
-    with(all, return_value(4, e))
-}
-
 #[test]
-fn objects_of_a_block_die_when_a_jump_leaves_it(rt: HostRuntime) -> Result<(), Fail> {
-    let alloc = rt.alloc();
-    assert!(rt; returns(alloc, jumping(alloc, load(alloc, 1)), 1));
-    let dead = value_at(pointed(alloc, 4));
-    assert!(rt; stops(alloc, jumping(alloc, dead), Kind::DanglingPointer, 4));
+fn a_jump_goes_to_its_label(rt: HostRuntime) -> Result<(), Fail> {
+    let rows = [
+        gives("x 0 = ; goto:o x 9 = ; x 1 += ; o: x return", 1),
+        gives("x 0 = ; x 1 += ; o: x 5 < goto:o if x return", 5),
+        gives(
+            "x 0 = ; { { goto:o } for(;;) } for(;;) x 3 += ; o: x return",
+            3,
+        ),
+        gives("x 0 = ; goto:i x 9 = ; x 1 += ; o: i: x return", 1),
+        gives(
+            "x 0 = ; { z 5 init goto:o }z x 9 = ; x 1 += ; o: x return",
+            1,
+        ),
+    ];
+    assert_eq!(rt; as_expected(rt.alloc(), &rows)?, rows.len());
     Ok(())
 }
 
 #[test]
 fn main_falls_off_its_end_with_0(rt: HostRuntime) -> Result<(), Fail> {
-    let alloc = rt.alloc();
-    assert!(rt; returns(alloc, Ok(Items::new(alloc)), 0));
+    let rows = [gives("", 0), gives("empty", 0), gives("x 5 = ;", 0)];
+    assert_eq!(rt; as_expected(rt.alloc(), &rows)?, rows.len());
     Ok(())
 }

@@ -1,119 +1,213 @@
-//! Expressions.
+//! Values.
 
-use crate::building::{both, int, object, one, operand};
+use crate::builder::{Builder, both, one};
+use crate::types::{INT, Of, is_pointer, pointer_to, type_of};
 use c_base::integer::IntKind;
-use c_base::number::{BaseId, SiteId};
 use c_base::operators::{BinOp, UnOp};
-use c_typed_expr::expr::{TCompound, TExpr, TLval, TRoot, TStep};
+use c_typed_expr::expr::{TCompound, TExpr, TLval, TOperand};
 use c_types::ctype::CType;
 use c_types::duplicate::Mem;
 use sqlite_items::{Boxed, Items};
-use std::alloc::Global;
 
-fn boxed(alloc: Global, e: Mem<TExpr>) -> Mem<Boxed<TExpr>> {
-    Boxed::new(alloc, e?)
+fn compares(op: BinOp) -> bool {
+    match op {
+        BinOp::Lt | BinOp::Le | BinOp::Gt | BinOp::Ge | BinOp::Eq | BinOp::Ne => true,
+        _ => false,
+    }
 }
 
-/// An operator on two ints.
-pub fn binary(alloc: Global, op: BinOp, a: Mem<TExpr>, b: Mem<TExpr>) -> Mem<TExpr> {
-    let (a, b) = both(a, b)?;
-    let (first, more) = both(Boxed::new(alloc, a), one(alloc, operand(op, b)))?;
-    Ok(TExpr::Run(first, more))
+fn kind_of(of: Of) -> IntKind {
+    match of {
+        Of::Int(kind) => kind,
+        _ => IntKind::Int,
+    }
 }
 
-pub fn unary(alloc: Global, op: UnOp, e: Mem<TExpr>) -> Mem<TExpr> {
-    Ok(TExpr::Unary(op, IntKind::Int, boxed(alloc, e)?))
+fn result_of(op: BinOp, left: Of, right: Of) -> Of {
+    if compares(op) {
+        return INT;
+    }
+    match (is_pointer(left), is_pointer(right)) {
+        (true, true) => Of::Int(IntKind::Long),
+        (false, true) => right,
+        _ => left,
+    }
 }
 
-pub fn pointer_to_int(alloc: Global) -> Mem<CType> {
-    Ok(CType::Ptr(Boxed::new(alloc, int())?))
+fn result_of_one(op: UnOp, of: Of) -> Of {
+    match op {
+        UnOp::Not => INT,
+        UnOp::Neg | UnOp::Compl => of,
+    }
 }
 
-/// The address of an int.
-pub fn address(alloc: Global, base: u32) -> Mem<TExpr> {
-    Ok(TExpr::Address(object(alloc, base)?, int()))
-}
+impl Builder {
+    pub fn constant(&mut self, n: i128) -> Mem<()> {
+        self.push_value(TExpr::Const(n, IntKind::Int), INT)
+    }
 
-/// A pointer is stored in the object at the base.
-pub fn assign_pointer(alloc: Global, base: u32, value: Mem<TExpr>) -> Mem<TExpr> {
-    let (value, place) = both(boxed(alloc, value), object(alloc, base))?;
-    Ok(TExpr::Assign(place, pointer_to_int(alloc)?, value))
-}
+    /// The size of an int, told by `sizeof` of an expression (C11 6.5.3.4).
+    pub fn size_of(&mut self) -> Mem<()> {
+        self.push_value(TExpr::SizeOf(4, 1), Of::Int(IntKind::ULong))
+    }
 
-fn place(alloc: Global, root: TRoot, step: Mem<TStep>) -> Mem<Boxed<TLval>> {
-    let steps = one(alloc, step?)?;
-    Boxed::new(alloc, TLval { root, steps })
-}
+    pub fn address(&mut self) -> Mem<()> {
+        let (place, of) = self.pop_located()?;
+        let ctype = type_of(self.alloc, of)?;
+        self.push_value(TExpr::Address(place, ctype), pointer_to(of))
+    }
 
-/// What the pointer at the base points to.
-pub fn pointed(alloc: Global, base: u32) -> Mem<Boxed<TLval>> {
-    let step = TStep::Follow(int(), false);
-    place(alloc, TRoot::Object(BaseId(base)), Ok(step))
-}
+    pub fn unary(&mut self, op: UnOp) -> Mem<()> {
+        let (operand, of) = self.pop_boxed()?;
+        let result = result_of_one(op, of);
+        self.push_value(TExpr::Unary(op, kind_of(of), operand), result)
+    }
 
-/// An element of the array of ints at the base.
-pub fn element(alloc: Global, base: u32, index: Mem<TExpr>, count: u64) -> Mem<Boxed<TLval>> {
-    let index = boxed(alloc, index)?;
-    let step = TStep::Element(index, int(), count, false);
-    place(alloc, TRoot::Object(BaseId(base)), Ok(step))
-}
+    /// The types of an operator's operands, and that of its result.
+    fn operand_types(&self, operator: BinOp, types: (Of, Of)) -> Mem<(CType, (CType, CType))> {
+        let left = type_of(self.alloc, types.0);
+        let right = type_of(self.alloc, types.1);
+        let ctype = type_of(self.alloc, result_of(operator, types.0, types.1));
+        both(ctype, both(left, right))
+    }
 
-/// What an int at a place holds.
-pub fn value_at(place: Mem<Boxed<TLval>>) -> Mem<TExpr> {
-    Ok(TExpr::Value(place?, int()))
-}
+    /// An operator and its right operand, behind an operand of the type.
+    fn operand(&self, operator: BinOp, types: (Of, Of), operand: TExpr) -> Mem<TOperand> {
+        let (ctype, (left, right)) = self.operand_types(operator, types)?;
+        Ok(TOperand {
+            operator,
+            converts: false,
+            left,
+            right,
+            ctype,
+            operand,
+        })
+    }
 
-pub fn assign_at(alloc: Global, place: Mem<Boxed<TLval>>, value: Mem<TExpr>) -> Mem<TExpr> {
-    let (value, place) = both(boxed(alloc, value), place)?;
-    Ok(TExpr::Assign(place, int(), value))
-}
+    /// C11 6.5.5 to 6.5.12.
+    pub fn binary(&mut self, op: BinOp) -> Mem<()> {
+        let right = self.pop_value()?;
+        let types = (self.top_type(), right.of);
+        let operand = self.operand(op, types, right.expr)?;
+        self.push_run(operand, result_of(op, types.0, types.1))
+    }
 
-/// `++`, `up`, or `--` behind the int at the base.
-pub fn step_after(alloc: Global, base: u32, up: bool) -> Mem<TExpr> {
-    let step = TStep::StepAfter(int(), up);
-    value_at(place(alloc, TRoot::Object(BaseId(base)), Ok(step)))
-}
+    fn push_run(&mut self, operand: TOperand, of: Of) -> Mem<()> {
+        let more = one(self.alloc, operand)?;
+        let left = self.pop_value()?;
+        let run = self.run(left.expr, more)?;
+        self.push_value(run, of)
+    }
 
-/// `++`, `up`, or `--` before the int at the base.
-pub fn step_before(alloc: Global, base: u32, up: bool) -> Mem<TExpr> {
-    Ok(TExpr::StepBefore(object(alloc, base)?, int(), up))
-}
+    fn run(&mut self, left: TExpr, more: Items<TOperand>) -> Mem<TExpr> {
+        if !self.take_joins() {
+            return Ok(TExpr::Run(Boxed::new(self.alloc, left)?, more));
+        }
+        match left {
+            TExpr::Run(first, mut operands) => {
+                operands.append(more)?;
+                Ok(TExpr::Run(first, operands))
+            }
+            other => Ok(TExpr::Run(Boxed::new(self.alloc, other)?, more)),
+        }
+    }
 
-pub fn compound(alloc: Global, base: u32, operator: BinOp, value: Mem<TExpr>) -> Mem<TExpr> {
-    let (operand, place) = both(boxed(alloc, value), object(alloc, base))?;
-    let compound = TCompound {
-        place,
-        ctype: int(),
-        operator,
-        left: int(),
-        right: int(),
-        operand,
-    };
-    Ok(TExpr::Compound(Boxed::new(alloc, compound)?))
-}
+    fn compounded(
+        &self,
+        place: Boxed<TLval>,
+        types: (Of, Of),
+        operator: BinOp,
+        operand: Boxed<TExpr>,
+    ) -> Mem<TCompound> {
+        let ctype = type_of(self.alloc, types.0);
+        let left = type_of(self.alloc, types.0);
+        let right = type_of(self.alloc, types.1);
+        let (ctype, (left, right)) = both(ctype, both(left, right))?;
+        Ok(TCompound {
+            place,
+            ctype,
+            operator,
+            left,
+            right,
+            operand,
+        })
+    }
 
-/// `&&`, `true`, or `||`.
-pub fn logic(alloc: Global, is_and: bool, a: Mem<TExpr>, b: Mem<TExpr>) -> Mem<TExpr> {
-    let (a, b) = both(boxed(alloc, a), b)?;
-    let (first, more) = both(Ok(a), one(alloc, b))?;
-    Ok(TExpr::Logic(is_and, first, more))
-}
+    /// C11 6.5.16.2: the place is combined in its own type.
+    pub fn compound(&mut self, op: BinOp) -> Mem<()> {
+        let (operand, right) = self.pop_boxed()?;
+        let (place, of) = self.pop_located()?;
+        let compound = self.compounded(place, (of, right), op, operand)?;
+        let compound = Boxed::new(self.alloc, compound)?;
+        self.push_value(TExpr::Compound(compound), of)
+    }
 
-pub fn conditional(alloc: Global, a: Mem<TExpr>, b: Mem<TExpr>, c: Mem<TExpr>) -> Mem<TExpr> {
-    let (a, b) = both(boxed(alloc, a), boxed(alloc, b))?;
-    let (ab, c) = both(Ok((a, b)), boxed(alloc, c))?;
-    Ok(TExpr::Conditional(ab.0, ab.1, c, int()))
-}
+    pub fn assign(&mut self) -> Mem<()> {
+        let (value, _) = self.pop_boxed()?;
+        let (place, of) = self.pop_located()?;
+        let ctype = type_of(self.alloc, of)?;
+        self.push_value(TExpr::Assign(place, ctype, value), of)
+    }
 
-pub fn comma(alloc: Global, a: Mem<TExpr>, b: Mem<TExpr>) -> Mem<TExpr> {
-    let (a, last) = both(a, boxed(alloc, b))?;
-    let (before, last) = both(one(alloc, a), Ok(last))?;
-    Ok(TExpr::Comma(before, last))
-}
+    pub fn step_before(&mut self, up: bool) -> Mem<()> {
+        let (place, of) = self.pop_located()?;
+        let ctype = type_of(self.alloc, of)?;
+        self.push_value(TExpr::StepBefore(place, ctype, up), of)
+    }
 
-/// A call of the function at a base with one argument.
-pub fn call_with(alloc: Global, site: u32, base: u32, argument: Mem<TExpr>) -> Mem<TExpr> {
-    let arguments: Items<TExpr> = one(alloc, argument?)?;
-    let step = TStep::Call(SiteId(site), arguments, int(), None);
-    value_at(place(alloc, TRoot::Object(BaseId(base)), Ok(step)))
+    /// `&&`, `true`, or `||`.
+    pub fn logic(&mut self, both: bool) -> Mem<()> {
+        let right = self.pop_value()?;
+        let more = one(self.alloc, right.expr)?;
+        let left = self.pop_value()?;
+        let all = self.ladder(both, left.expr, more)?;
+        self.push_value(all, INT)
+    }
+
+    fn ladder(&mut self, both: bool, left: TExpr, more: Items<TExpr>) -> Mem<TExpr> {
+        if !self.take_joins() {
+            return Ok(TExpr::Logic(both, Boxed::new(self.alloc, left)?, more));
+        }
+        match left {
+            TExpr::Logic(sort, first, mut operands) => {
+                operands.append(more)?;
+                Ok(TExpr::Logic(sort, first, operands))
+            }
+            other => Ok(TExpr::Logic(both, Boxed::new(self.alloc, other)?, more)),
+        }
+    }
+
+    pub fn conditional(&mut self) -> Mem<()> {
+        let (no, of) = self.pop_boxed()?;
+        let (yes, _) = self.pop_boxed()?;
+        let (cond, _) = self.pop_boxed()?;
+        let ctype = type_of(self.alloc, of)?;
+        self.push_value(TExpr::Conditional(cond, yes, no, ctype), of)
+    }
+
+    pub fn comma(&mut self) -> Mem<()> {
+        let (last, of) = self.pop_boxed()?;
+        let first = self.pop_value()?;
+        let before = one(self.alloc, first.expr)?;
+        self.push_value(TExpr::Comma(before, last), of)
+    }
+
+    /// A conversion to the type (C11 6.3), written as a cast or not.
+    pub fn convert(&mut self, written: bool, to: Of) -> Mem<()> {
+        let (value, _) = self.pop_boxed()?;
+        let ctype = type_of(self.alloc, to)?;
+        let converted = if written {
+            TExpr::Cast(ctype, value)
+        } else {
+            TExpr::Convert(ctype, value)
+        };
+        self.push_value(converted, to)
+    }
+
+    /// Whether a pointer isn't null, as a condition.
+    pub fn is_set(&mut self) -> Mem<()> {
+        let (pointer, of) = self.pop_boxed()?;
+        let ctype = type_of(self.alloc, of)?;
+        self.push_value(TExpr::IsSet(ctype, pointer), INT)
+    }
 }

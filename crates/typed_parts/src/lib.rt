@@ -1,6 +1,11 @@
-//! Parts of typed programs by hand, for tests.
+//! Typed programs for tests, written as words that stand behind their operands.
 #![tactic(auto)]
 
-pub mod building;
-pub mod expressions;
-pub mod statements;
+mod builder;
+mod expressions;
+mod objects;
+mod places;
+pub mod programs;
+mod statements;
+mod types;
+mod words;
