@@ -1,3 +1,4 @@
 pub mod Among
 pub mod Contents
 pub mod Slots
+pub mod Splitting

@@ -1,3 +1,4 @@
 pub mod Offsets
 pub mod Contents
 pub mod Slots
+pub mod Parts

@@ -1,10 +1,10 @@
 //! The laws. A list of elements is fine where each cell may stand in its element, as in every map.
-ghost use Rattle.std.specs.Prelude.{◌≡◌, ℕ, ◌+◌, ◌*◌, ◌<◌, ◌≤◌, Bool, true, List, ◌∷◌, ◌++◌, length, take, drop, map};
+ghost use Rattle.std.specs.Prelude.{◌≡◌, ℕ, ◌+◌, ◌*◌, ◌<◌, ◌≤◌, Bool, true, false, List, ◌∷◌, ◌++◌, length, take, drop, map};
 ghost use Rattle.cell_laws.specs.Elements.{Element, AllFine, width};
 ghost use Rattle.cell_laws.specs.Order.{included};
 ghost use Rattle.cell_laws.specs.Meaning.{Describes};
 ghost use Rattle.cell_laws.specs.Join.{joined, joined_cell};
-ghost use Rattle.cell_laws.specs.Access.{take_bits, drop_bits, copied, pasted, put, stored, loaded_all, weakened, IsSize, AllWithin};
+ghost use Rattle.cell_laws.specs.Access.{take_bits, drop_bits, copied, pasted, put, repeated, stored, loaded, loaded_all, weakened, IsSize, AllWithin};
 ghost use Rattle.cell_laws.specs.Laws.{MergeLaws};
 ghost use Rattle.run_orders.specs.Singles.{all_single};
 ghost use Rattle.run_orders.specs.Deaths.{left_all, LeftLaws};
@@ -13,6 +13,7 @@ ghost use Rattle.run_slots.specs.Offsets.{Represent};
 ghost use Rattle.run_slots.specs.Slots.{slots_weakened};
 ghost use Rattle.offmap_laws.specs.Contents.{AllAlike, SingleLaws, DeathLaws};
 ghost use Rattle.offmap_laws.specs.Slots.{AllMayBeStored};
+ghost use Rattle.offmap_laws.specs.Parts.{ArePasted, AllTimes};
 
 use crate::concrete::Concrete;
 use cell_runs::cells::Cells;
@@ -76,6 +77,20 @@ pub fn paste_keeps_rest<C: Cells>()
         drop_bits C.ops (pasted C.ops m at part) (at + width part) ≡ drop_bits C.ops m (at + width part) }
 {}
 
+/// After a paste the bits of the part may be what the part describes, and the others are as they were.
+pub fn paste_describes<C: Cells, M: Concrete<C>>()
+    ensures { (world : M.World) (m part : List (Element C)) (at : ℕ) (ks cs : List M.Bit) → AllFine C.fine m → at + width part ≤ width m →
+        length ks ≡ width m → length cs ≡ width part → Describes (M.allows world) m ks → Describes (M.allows world) part cs →
+        Describes (M.allows world) (pasted C.ops m at part) (take at ks ++ (cs ++ drop (at + width part) ks)) }
+{}
+
+/// And nothing else: before the part they are what the map describes there, in the part what it describes, and so behind it.
+pub fn paste_describes_only<C: Cells, M: Concrete<C>>()
+    ensures { (world : M.World) (m part : List (Element C)) (at : ℕ) (js : List M.Bit) → at + width part ≤ width m →
+        Describes (M.allows world) (pasted C.ops m at part) js →
+        ArePasted (Describes (M.allows world)) (take_bits C.ops m at) part (drop_bits C.ops m (at + width part)) at (width part) js }
+{}
+
 /// A copy describes the bits of its place.
 pub fn copy_describes<C: Cells, M: Concrete<C>>()
     ensures { (world : M.World) (m : List (Element C)) (at n : ℕ) (ks : List M.Bit) → AllFine C.fine m → Describes (M.allows world) m ks →
@@ -87,6 +102,31 @@ pub fn store_describes<C: Cells, M: Concrete<C>>()
     ensures { (world : M.World) (m : List (Element C)) (at k : ℕ) (c : C) (ks cs : List M.Bit) → IsSize k → AllFine C.fine m →
         at + k ≤ width m → length ks ≡ width m → Describes (M.allows world) m ks → M.allows world k c cs →
         Describes (M.allows world) (stored C.ops m at k c) (take at ks ++ (cs ++ drop (at + k) ks)) }
+{}
+
+/// And nothing else: the written bits are what the cell allows that was put there, and the others what the map describes there.
+pub fn store_describes_only<C: Cells, M: Concrete<C>>()
+    ensures { (world : M.World) (m : List (Element C)) (at k : ℕ) (c : C) (js : List M.Bit) → at + k ≤ width m →
+        Describes (M.allows world) (stored C.ops m at k c) js →
+        ArePasted (Describes (M.allows world)) (take_bits C.ops m at) (put C.ops k c) (drop_bits C.ops m (at + k)) at k js }
+{}
+
+/// A load of bits that were written finds the cell that was put there, if it has a value.
+pub fn store_is_loaded<C: Cells>()
+    ensures { (m : List (Element C)) (at k : ℕ) (c : C) → IsSize k → AllFine C.fine m → at + k ≤ width m →
+        C.ops.blank (C.ops.fit k c) ≡ false → loaded C.ops (stored C.ops m at k c) at k ≡ C.ops.fit k c }
+{}
+
+/// Where a cell is repeated, the bits of each element may be what it allows.
+pub fn repetition_describes<C: Cells, M: Concrete<C>>()
+    ensures { (world : M.World) (k n : ℕ) (c : C) (ks : List M.Bit) → IsSize k → AllTimes (M.allows world k c) k n ks →
+        Describes (M.allows world) (repeated C.ops k n c) ks }
+{}
+
+/// And nothing else.
+pub fn repetition_describes_only<C: Cells, M: Concrete<C>>()
+    ensures { (world : M.World) (k n : ℕ) (c : C) (ks : List M.Bit) → Describes (M.allows world) (repeated C.ops k n c) ks →
+        AllTimes (Describes (M.allows world) (put C.ops k c)) k n ks }
 {}
 
 /// A load gives the content of each described list of bits at each offset.
