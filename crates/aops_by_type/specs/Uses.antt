@@ -9,11 +9,11 @@ use Rattle.ival_core.specs.declared.value.Ival.{Ival}
 use Rattle.ival_core.specs.Ivals.{Holds}
 use Rattle.avalue_base.specs.Values.{AVal, Separate, Mixed}
 use Rattle.avalue_base.specs.Meaning.{IsWord}
+use Rattle.avalue_base.specs.Meets.{has_near_offsets}
 use Rattle.avalue_base.specs.Singles.{is_single_value}
 use Rattle.aops.specs.Integers.{Cause}
 use Rattle.aops.specs.Soles.{is_single_number, NarrowValue}
 use Rattle.aops_pointers.specs.Moved.{KeepsNear}
-use Rattle.aops_relations.specs.Soles.{has_near_offsets}
 use Rattle.aops_by_type.specs.declared.binary.Operand.{Operand}
 use Rattle.aops_by_type.specs.declared.binary.Operand.TheVariants.{Integer, Pointer}
 use Rattle.aops_by_type.specs.Typed.{is_difference, result_of}

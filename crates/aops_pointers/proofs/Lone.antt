@@ -16,7 +16,7 @@ use Rattle.ival_core.specs.declared.value.Ival.{Ival}
 use Rattle.ival_core.specs.Ivals.{Holds, IsOnly}
 use Rattle.ival_core.specs.Sets.{IsNumber, IsValid}
 use Rattle.ival_core.specs.Views.{single_of}
-use Rattle.avalue_base.specs.Hues.{value_number, pointer_bits}
+use Rattle.avalue_base.specs.Hues.{pointer_bits}
 use Rattle.avalue_base.specs.Meaning.{Means}
 use Rattle.avalue_base.specs.Meets.{set_of}
 use Rattle.avalue_base.specs.Numbers.{is_empty_list}
@@ -27,7 +27,7 @@ use Rattle.avalue_base.proofs.Sets.{single_only}
 use Rattle.aops.specs.Soles.{is_single_number}
 use Rattle.aops.proofs.Soles.{same_value}
 use Rattle.aops_pointers.specs.Moves.{summed, moved_by, at_number, IsKept, IsNear}
-use Rattle.aops_pointers.specs.Moved.{KeepsNear}
+use Rattle.aops_pointers.specs.Moved.{KeepsNear, value_number}
 use Rattle.aops_pointers.specs.Singles.{one_moved}
 use Rattle.aops_pointers.proofs.Moving.{left_residue, moved_is}
 

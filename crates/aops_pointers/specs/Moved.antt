@@ -4,10 +4,16 @@ use Rattle.c_base.specs.declared.integer.Machine.{Machine}
 use Rattle.ival_core.specs.declared.value.Ival.{Ival}
 use Rattle.ival_core.specs.Ivals.{Holds}
 use Rattle.ival_core.specs.Sets.{IsNumber}
-use Rattle.avalue_base.specs.Hues.{value_number}
+use Rattle.ival_core.specs.Views.{single_of}
 use Rattle.avalue_base.specs.Values.{AVal, Separate, Mixed}
 use Rattle.aops_pointers.specs.Moves.{IsNear, moved_sets, summed}
 use Rattle.aops_pointers.specs.Singles.{one_moved}
+
+-- the number of a value that is one number, made from no address
+abbrev pub value_number : AVal → Option ℤ
+value_number (Separate numbers []) = single_of numbers.shape
+value_number (Separate numbers (a ∷ addresses)) = None
+value_number (Mixed bases) = None
 
 abbrev pub number_or : Option Ival → AVal → AVal
 number_or None v = v

@@ -1,8 +1,8 @@
 //! One pointer that was made from no address, moved by one count (C11 6.5.6p8). What lies between, the count in bytes, may be larger than any number of a set.
 ghost use Rattle.std.specs.Prelude.{◌≡◌, ◌<◌, ◌≤◌, ◌^◌, ◌*ℤ◌, pos};
 ghost use Rattle.c_base.specs.Integers as integers;
-ghost use Rattle.avalue_base.specs.Hues.{value_number};
 ghost use Rattle.c_pointers.specs.Conversions.{address_number};
+ghost use Rattle.aops_pointers.specs.Moved.{value_number};
 ghost use Rattle.aops_pointers.specs.Moves.{summed};
 ghost use Rattle.aops_pointers.specs.Singles.{one_moved};
 

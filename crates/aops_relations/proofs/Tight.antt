@@ -22,7 +22,7 @@ use Rattle.ival_arith.proofs.Bounding.{number_held}
 use Rattle.ival_arith.proofs.TermSets.{term_value-covers, lacks_true, lacks_false, sets, only_shape, single-only}
 use Rattle.avalue_base.specs.Numbers.{is_empty}
 use Rattle.avalue_base.specs.Values.{Address, AVal, Separate, Mixed}
-use Rattle.avalue_base.specs.Meets.{set_of, lies_near}
+use Rattle.avalue_base.specs.Meets.{set_of, lies_near, has_near_offsets}
 use Rattle.avalue_base.specs.Meaning.{Means}
 use Rattle.avalue_base.specs.Singles.{is_single_value}
 use Rattle.avalue_base.proofs.Meets.{set_same}
@@ -35,7 +35,7 @@ use Rattle.aops_relations.specs.declared.comparisons.Verdict.{Verdict}
 use Rattle.aops_relations.specs.Placed.{one_address, all_within, some_within, all_inside, some_inside}
 use Rattle.aops_relations.specs.Comparisons.{is_equality, nothing, untied, one_base, two_bases, two_addresses, zero_alone, with_null, two_numbers, judged}
 use Rattle.aops_relations.specs.Differences.{quotient_of, or_far, quotients, within_one, undefined, differed}
-use Rattle.aops_relations.specs.Soles.{has_near_offsets, IsSoleVerdict}
+use Rattle.aops_relations.specs.Soles.{IsSoleVerdict}
 use Rattle.aops_relations.proofs.Differing.{one}
 
 -- at most one number

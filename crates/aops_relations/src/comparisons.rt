@@ -5,13 +5,13 @@ ghost use Rattle.c_memory.specs.Layouts.{Layout};
 ghost use Rattle.c_memory.specs.Values.{Value};
 ghost use Rattle.c_pointers.specs.Pointers.{comparison};
 ghost use Rattle.avalue_base.specs.Meaning.{Means};
-ghost use Rattle.avalue_base.specs.Meets.{meet_of};
+ghost use Rattle.avalue_base.specs.Meets.{has_near_offsets, meet_of};
 ghost use Rattle.avalue_base.specs.Numbers.{is_empty, words};
 ghost use Rattle.avalue_base.specs.Values.{Separate};
 ghost use Rattle.avalue_values.specs.Views.{numbers_alone};
 ghost use Rattle.avalue_base.specs.Singles.{is_single_value};
 ghost use Rattle.aops_relations.specs.Placed.{ArePointers};
-ghost use Rattle.aops_relations.specs.Soles.{IsSoleVerdict, has_near_offsets};
+ghost use Rattle.aops_relations.specs.Soles.{IsSoleVerdict};
 ghost use Rattle.aops_relations.specs.Comparisons.{by_numbers, is_equality, judged, nothing, one_base, op_of, tested, two_addresses, two_bases, two_numbers, unknown, untied, with_null, with_numbers, zero_alone};
 
 use crate::places::{all_good, all_inside, all_within, one_address, some_inside};

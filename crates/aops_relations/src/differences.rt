@@ -11,7 +11,8 @@ ghost use Rattle.aops_pointers.specs.Images.{image};
 ghost use Rattle.aops_relations.specs.Differences.{differed, far_numbers, of_addresses, of_numbers, quotient_of, quotients, undefined, within_one};
 ghost use Rattle.avalue_base.specs.Singles.{is_single_value};
 ghost use Rattle.aops_relations.specs.Placed.{ArePointers, one_address};
-ghost use Rattle.aops_relations.specs.Soles.{IsSoleVerdict, has_near_offsets};
+ghost use Rattle.aops_relations.specs.Soles.{IsSoleVerdict};
+ghost use Rattle.avalue_base.specs.Meets.{has_near_offsets};
 
 use crate::comparisons::{Verdict, has_no_word, set_if};
 use crate::places::{all_inside, one_address, some_inside};

@@ -5,11 +5,10 @@ use Rattle.std.specs.List.{list_all}
 use Rattle.std.proofs.lemmas.Bool.{and_parts, eqb-true}
 use Rattle.c_base.specs.declared.integer.Machine.TheVariants.{Lp64}
 use Rattle.ival_core.specs.declared.value.Ival.{Ival}
-use Rattle.ival_core.specs.Views.{single_of}
 use Rattle.avalue_base.specs.Lists.{all_among, union_of}
-use Rattle.avalue_base.specs.Numbers.{is_empty_list, has_row, bit_numbers, join_of, concat_of}
+use Rattle.avalue_base.specs.Numbers.{is_empty_list, has_row, rest_in, bit_numbers, join_of, concat_of}
 use Rattle.avalue_base.specs.Values.{Address, AVal, Separate, Mixed, bases_of}
-use Rattle.avalue_base.specs.Hues.{any_value, value_admits, value_number, value_has, with_number}
+use Rattle.avalue_base.specs.Hues.{any_value, value_admits, value_rest, value_has, with_number}
 use Rattle.avalue_base.specs.Pieces.{has_offsets, fit_value, glue_values}
 use Rattle.avalue_base.proofs.Accesses.{fit_value_same}
 use Rattle.avalue_values.specs.Views.{numbers_in, numbers_alone, addresses_of}
@@ -29,15 +28,15 @@ pub admits_row : (v : AVal) (n : Ival) (k : ℕ) (bs : List ℕ) (r : Bool) → 
 admits_row (Separate ns xs) n k bs r e h f = rw h (f ∙ ap (λ (m : Ival). has_row m.shape (2 ^ k)) (sym (some_is ns n e)))
 admits_row (Mixed cs) n k bs r e h f = cc
 
-pub number_none : (v : AVal) → numbers_alone v ≡ None → value_number v ≡ None
-number_none (Separate ns []) e = cc
-number_none (Separate ns (x ∷ xs)) e = refl
-number_none (Mixed bs) e = refl
+pub rest_none : (k : ℕ) (v : AVal) → numbers_alone v ≡ None → value_rest k v ≡ None
+rest_none k (Separate ns []) e = cc
+rest_none k (Separate ns (x ∷ xs)) e = refl
+rest_none k (Mixed bs) e = refl
 
-pub number_alone : (v : AVal) (n : Ival) → numbers_alone v ≡ Some n → value_number v ≡ single_of n.shape
-number_alone (Separate ns []) n e = ap (λ (m : Ival). single_of m.shape) (some_is ns n e)
-number_alone (Separate ns (x ∷ xs)) n e = cc
-number_alone (Mixed bs) n e = cc
+pub rest_alone : (k : ℕ) (v : AVal) (n : Ival) → numbers_alone v ≡ Some n → value_rest k v ≡ rest_in k n.shape
+rest_alone k (Separate ns []) n e = ap (λ (m : Ival). rest_in k m.shape) (some_is ns n e)
+rest_alone k (Separate ns (x ∷ xs)) n e = cc
+rest_alone k (Mixed bs) n e = cc
 
 pub has_mixed : (v : AVal) (k : ℕ) (bits : List Bool) → numbers_in v ≡ None → true ≡ value_has k v bits
 has_mixed (Separate ns xs) k bits e = cc

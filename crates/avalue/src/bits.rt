@@ -2,7 +2,7 @@
 ghost use Rattle.std.specs.Prelude.{◌≡◌, ◌<◌, ◌≤◌, length};
 ghost use Rattle.avalue_base.specs.Lists.{all_among};
 ghost use Rattle.avalue_base.specs.Values.{bases_of};
-ghost use Rattle.avalue_base.specs.Hues.{bit_in, value_admits, value_has, value_number};
+ghost use Rattle.avalue_base.specs.Hues.{bit_in, value_admits, value_has, value_rest};
 
 use avalue_parts::{has_residue, has_row, known_bit as bit_of, number_of};
 use avalue_values::AVal;
@@ -39,11 +39,11 @@ pub(crate) fn admits(a: &AVal, bits: u64, b: &AVal) -> bool
     }
 }
 
-/// The bit at an index of elements of so many bits, where there is one value alone, a number.
+/// The bit at an index of elements of so many bits, where all values are numbers with the same bits there.
 pub(crate) fn known_bit(a: &AVal, bits: u64, index: u64) -> Option<bool>
     requires few { bits ≤ 64 }
     requires inside { index < bits }
-    ensures { result ≡ bit_in bits index (value_number a.now) }
+    ensures { result ≡ bit_in bits index (value_rest bits a.now) }
 {
     match a.numbers_alone() {
         None => None,

@@ -1,11 +1,13 @@
 pub mod Lists
 pub mod Sets
 pub mod Words
+pub mod Rests
 pub mod Ordering
 pub mod Joins
 pub mod Meanings
 pub mod Showing
 pub mod Slices
+pub mod Parting
 pub mod Accesses
 pub mod Sounds
 pub mod Forgetting

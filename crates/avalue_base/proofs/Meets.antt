@@ -88,11 +88,11 @@ meet_same a b v m = Includes-antisymm v (meet_of a b) (λ n h. (m n).1 ((meet_is
 
 -- ---- near offsets
 
-record Near (n : ℤ) : Type 0 where
-  low : neg_ℤ (pos (2 ^ 62)) ≤ℤ n
-  high : n ≤ℤ pos (2 ^ 62)
+pub record Near (n : ℤ) : Type 0 where
+  pub low : neg_ℤ (pos (2 ^ 62)) ≤ℤ n
+  pub high : n ≤ℤ pos (2 ^ 62)
 
-near_held : (v : Ival) (n : ℤ) → lies_near (bounds_of v.shape) ≡ true → Holds v n → Near n
+pub near_held : (v : Ival) (n : ℤ) → lies_near (bounds_of v.shape) ≡ true → Holds v n → Near n
 near_held v n e h = at (bounds_of v.shape) refl e
   where
     at : (o : Option (ℤ × ℤ)) → bounds_of v.shape ≡ o → lies_near o ≡ true → Near n
@@ -108,7 +108,7 @@ near_held v n e h = at (bounds_of v.shape) refl e
         record { low = omega (arith, ints); high = omega (arith, ints) }
 
 -- near offsets that give one address are one
-one_offset : (a m n : ℤ) → Near m → Near n → residue (2 ^ 64) (a +ℤ m) ≡ residue (2 ^ 64) (a +ℤ n) → m ≡ n
+pub one_offset : (a m n : ℤ) → Near m → Near n → residue (2 ^ 64) (a +ℤ m) ≡ residue (2 ^ 64) (a +ℤ n) → m ≡ n
 one_offset a m n h k e =
     let x = residue_differs (2 ^ 64) (a +ℤ m) (pow_pos 64) in
     let y = residue_differs (2 ^ 64) (a +ℤ n) (pow_pos 64) in

@@ -3,22 +3,22 @@ use Rattle.std.proofs.Common.{◌≡◌, ℕ, ◌^◌, ◌<◌, ◌≤◌, ◌==
 use Rattle.std.specs.Prelude.{Option, None, Some}
 use Rattle.std.specs.List.{list_all}
 use Rattle.std.proofs.lemmas.Bool.{and_parts, and_from, or_cases, eqb-true}
-use Rattle.std.proofs.lemmas.Int.{ints}
+use Rattle.std.proofs.lemmas.Nat.{pow_pos}
 use Rattle.std.proofs.Math.Nat.{pow-le-pow_right}
 use Rattle.c_base.specs.declared.integer.Machine.{Machine}
-use Rattle.c_base.specs.Integers.{residue, bits_from, bits_of, number_of_bits}
+use Rattle.c_base.specs.Integers.{residue, bits_from, number_of_bits}
 use Rattle.ival_core.specs.declared.value.Ival.{Ival}
-use Rattle.ival_core.specs.Views.{single_of}
 use Rattle.cell_laws.specs.Elements.{bit_at}
 use Rattle.cell_laws.specs.Laws.{FineLaws, OrderLaws}
 use Rattle.avalue_base.specs.Lists.{has_base, all_among, In}
-use Rattle.avalue_base.specs.Numbers.{is_empty, is_empty_list, lies_in, has_row}
+use Rattle.avalue_base.specs.Numbers.{is_empty, is_empty_list, lies_in, has_row, rest_in}
 use Rattle.avalue_base.specs.Values.{Address, AVal, Separate, Mixed, Cellv, base_of, bases_of, has_no_value}
 use Rattle.avalue_base.specs.Order.{is_part, is_among, value_in, implies, leq}
-use Rattle.avalue_base.specs.Hues.{Hue, hue, within, blank, value_admits, admits, value_number, known_number, bit_in, bit, value_has}
+use Rattle.avalue_base.specs.Hues.{Hue, hue, within, blank, value_admits, admits, value_rest, known_rest, bit_in, bit, value_has}
 use Rattle.avalue_base.specs.Ops.{ops, Fine}
 use Rattle.avalue_base.proofs.Lists.{In-any, any-In, all-In, In-all, In-map, map-In, In-has, among-refl, among-trans, among-none}
-use Rattle.avalue_base.proofs.Sets.{lies-includes, lies-refl, lies-trans, lies-empty, empty_none, Row, row_held, row_included, residue_held, held_residue, single_only, single_included}
+use Rattle.avalue_base.proofs.Sets.{lies-includes, lies-refl, lies-trans, lies-empty, empty_none, Row, row_held, row_included, residue_held, held_residue}
+use Rattle.avalue_base.proofs.Rests.{rest_held, rest_included, rest_minus, zero_one}
 use Rattle.avalue_base.proofs.Words.{bits_from-number_of_bits}
 
 -- ---- flags
@@ -216,41 +216,42 @@ value_has_some k (Mixed cs) bits e n = cc
 
 -- ---- known numbers
 
-pub record Known (c : Cellv) (n : ℤ) : Type 0 where
+-- all numbers leave r modulo 2^k, and there is nothing else
+pub record Known (k : ℕ) (c : Cellv) (r : ℕ) : Type 0 where
   pub uninit : c.uninit ≡ false
   pub dead : c.dead ≡ false
   pub numbers : Ival
   pub value : c.value ≡ Separate numbers []
-  pub single : single_of numbers.shape ≡ Some n
+  pub rest : rest_in k numbers.shape ≡ Some r
 
-known_value : (v : AVal) (n : ℤ) → value_number v ≡ Some n → (numbers : Ival) × (v ≡ Separate numbers []) × (single_of numbers.shape ≡ Some n)
-known_value (Separate ns []) n e = (ns, refl, e)
-known_value (Separate ns (x ∷ xs)) n e = cc
-known_value (Mixed bs) n e = cc
+known_value : (k : ℕ) (v : AVal) (r : ℕ) → value_rest k v ≡ Some r → (numbers : Ival) × (v ≡ Separate numbers []) × (rest_in k numbers.shape ≡ Some r)
+known_value k (Separate ns []) r e = (ns, refl, e)
+known_value k (Separate ns (x ∷ xs)) r e = cc
+known_value k (Mixed bs) r e = cc
 
-pub known_parts : (c : Cellv) (n : ℤ) → known_number c ≡ Some n → Known c n
-known_parts c n e =
-    let f = flags c.uninit c.dead (value_number c.value) e in
-    let v = known_value c.value n f.2 in
-    record { uninit = f.0; dead = f.1; numbers = v.0; value = v.1; single = v.2 }
+pub known_parts : (k : ℕ) (c : Cellv) (r : ℕ) → known_rest k c ≡ Some r → Known k c r
+known_parts k c r e =
+    let f = flags c.uninit c.dead (value_rest k c.value) e in
+    let v = known_value k c.value r f.2 in
+    record { uninit = f.0; dead = f.1; numbers = v.0; value = v.1; rest = v.2 }
   where
-    flags : (a b : Bool) (o : Option ℤ) → cond (a || b) None o ≡ Some n → (a ≡ false) × (b ≡ false) × (o ≡ Some n)
+    flags : (a b : Bool) (o : Option ℕ) → cond (a || b) None o ≡ Some r → (a ≡ false) × (b ≡ false) × (o ≡ Some r)
     flags true b o e = cc
     flags false true o e = cc
     flags false false o e = (refl, refl, e)
 
-pub known_from : (c : Cellv) (n : ℤ) → Known c n → known_number c ≡ Some n
-known_from c n k = rw (k.uninit, k.dead, k.value) k.single
+pub known_from : (k : ℕ) (c : Cellv) (r : ℕ) → Known k c r → known_rest k c ≡ Some r
+known_from k c r h = rw (h.uninit, h.dead, h.value) h.rest
 
-pub known_bit : (k i : ℕ) (c : Cellv) (b : Bool) → bit k i c ≡ Some b → (n : ℤ) × Known c n × (bit_at (bits_of k n) i ≡ Some b)
-known_bit k i c b e = let a = at (known_number c) e in (a.0, known_parts c a.0 a.1, a.2)
+pub known_bit : (k i : ℕ) (c : Cellv) (b : Bool) → bit k i c ≡ Some b → (r : ℕ) × Known k c r × (bit_at (bits_from r k) i ≡ Some b)
+known_bit k i c b e = let a = at (known_rest k c) e in (a.0, known_parts k c a.0 a.1, a.2)
   where
-    at : (o : Option ℤ) → bit_in k i o ≡ Some b → (n : ℤ) × (o ≡ Some n) × (bit_at (bits_of k n) i ≡ Some b)
+    at : (o : Option ℕ) → bit_in k i o ≡ Some b → (r : ℕ) × (o ≡ Some r) × (bit_at (bits_from r k) i ≡ Some b)
     at None e = cc
-    at (Some n) e = (n, refl, e)
+    at (Some r) e = (r, refl, e)
 
-pub bit_known : (k i : ℕ) (c : Cellv) (b : Bool) (n : ℤ) → Known c n → bit_at (bits_of k n) i ≡ Some b → bit k i c ≡ Some b
-bit_known k i c b n h e = ap (bit_in k i) (known_from c n h) ∙ e
+pub bit_known : (k i : ℕ) (c : Cellv) (b : Bool) (r : ℕ) → Known k c r → bit_at (bits_from r k) i ≡ Some b → bit k i c ≡ Some b
+bit_known k i c b r h e = ap (bit_in k i) (known_from k c r h) ∙ e
 
 clash : (b : Bool) → b ≡ true → b ≡ false → ⊥
 clash true h k = cc
@@ -263,33 +264,30 @@ not_true false f = refl
 no_flags : (c : Cellv) → c.uninit ≡ false → c.dead ≡ false → (c.uninit || c.dead) ≡ true → ⊥
 no_flags c e f h = elim (or_cases c.uninit c.dead h) [ inl a ↦ clash c.uninit a e | inr b ↦ clash c.dead b f ]
 
-pub known_leq : (x y : Cellv) (n : ℤ) → (blank x ≡ true → (x.uninit || x.dead) ≡ true) → leq x y ≡ true → Known y n → Known x n
-known_leq x y n f h k =
+pub known_leq : (k : ℕ) (x y : Cellv) (r : ℕ) → k ≤ 64 → (blank x ≡ true → (x.uninit || x.dead) ≡ true) → leq x y ≡ true → Known k y r → Known k x r
+known_leq k x y r few f h n =
     let l = leq_parts x y h in
-    let uninit : x.uninit ≡ false = implied_not x.uninit y.uninit l.second k.uninit in
-    let dead : x.dead ≡ false = implied_not x.dead y.dead l.third k.dead in
-    let v = at x.value (λ e. no_flags x uninit dead (f e)) k.numbers k.single (subst (λ w. value_in x.value w ≡ true) k.value l.first) in
-    record { uninit = uninit; dead = dead; numbers = v.0; value = v.1; single = v.2 }
+    let uninit : x.uninit ≡ false = implied_not x.uninit y.uninit l.second n.uninit in
+    let dead : x.dead ≡ false = implied_not x.dead y.dead l.third n.dead in
+    let v = at x.value (λ e. no_flags x uninit dead (f e)) n.numbers n.rest (subst (λ w. value_in x.value w ≡ true) n.value l.first) in
+    record { uninit = uninit; dead = dead; numbers = v.0; value = v.1; rest = v.2 }
   where
-    at : (v : AVal) → (has_no_value v ≡ true → ⊥) → (ms : Ival) → single_of ms.shape ≡ Some n → value_in v (Separate ms []) ≡ true → (ns : Ival) × (v ≡ Separate ns []) × (single_of ns.shape ≡ Some n)
+    at : (v : AVal) → (has_no_value v ≡ true → ⊥) → (ms : Ival) → rest_in k ms.shape ≡ Some r → value_in v (Separate ms []) ≡ true → (ns : Ival) × (v ≡ Separate ns []) × (rest_in k ns.shape ≡ Some r)
     at (Separate ns xs) f ms s h =
         let p = separate_parts ns ms xs [] h in
         let none = parts_none xs p.1 in
-        (ns, ap (Separate ns) none, single_included ns ms n (lies-includes ns ms p.0) (not_true (is_empty ns.shape) (λ e. f (nothing_from ns xs e none))) s)
+        (ns, ap (Separate ns) none, rest_included k ns ms r few (lies-includes ns ms p.0) (not_true (is_empty ns.shape) (λ e. f (nothing_from ns xs e none))) s)
     at (Mixed bs) f ms s h = cc
 
-two_rows : (ns : Ival) (n : ℤ) (k : ℕ) → 0 < k → single_of ns.shape ≡ Some n → Row ns (2 ^ k) → ⊥
-two_rows ns n k h s r =
-    let o = single_only ns n s in
+-- two neighbours don't leave the same
+two_rows : (ns : Ival) (r k : ℕ) → 0 < k → k ≤ 64 → rest_in k ns.shape ≡ Some r → Row ns (2 ^ k) → ⊥
+two_rows ns r k h few s w =
     let q : 1 ≤ k = omega arith in
     let two : 0 < 2 = omega arith in
     let p : 2 ^ 1 ≤ 2 ^ k = pow-le-pow_right two q in
-    let a : r.first +ℤ pos 0 ≡ n = (o (r.first +ℤ pos 0)).0 (r.next 0 (omega arith)) in
-    let b : r.first +ℤ pos 1 ≡ n = (o (r.first +ℤ pos 1)).0 (r.next 1 (omega arith)) in
-    apart r.first n a b
-  where
-    apart : (f n : ℤ) → f +ℤ pos 0 ≡ n → f +ℤ pos 1 ≡ n → ⊥
-    apart f n a b = omega (arith, ints)
+    let a : residue (2 ^ k) (w.first +ℤ pos 0) ≡ r = rest_held k ns r (w.first +ℤ pos 0) few s (w.next 0 (omega arith)) in
+    let b : residue (2 ^ k) (w.first +ℤ pos 1) ≡ r = rest_held k ns r (w.first +ℤ pos 1) few s (w.next 1 (omega arith)) in
+    zero_one k h (rest_minus (2 ^ k) w.first (pos 0) (pos 1) (pow_pos k) (a ∙ sym b))
 
 -- ---- the laws
 
@@ -326,7 +324,7 @@ order_laws machine = record {
   blank_leq = λ k x y f g a e. value_nothing x.value y.value (leq_parts x y a).first e;
   bit_leq = λ k i x y b f g l a e.
       let n = known_bit k i y b e in
-      bit_known k i x b n.0 (known_leq x y n.0 f.flag a n.1) n.2;
+      bit_known k i x b n.0 (known_leq k x y n.0 f.few_bits f.flag a n.1) n.2;
   admits_leq = λ k x y h f g a e.
       let p = leq_parts x y a in
       let q = admits_parts k x h e in
@@ -351,7 +349,7 @@ order_laws machine = record {
       let n = known_bit k i y b s in
       let q = subst (λ v. value_admits k v h.bases ≡ true) n.1.value (admits_parts k y h e).first in
       let p = and_parts (is_empty_list h.bases) (has_row n.1.numbers.shape (2 ^ k)) q in
-      two_rows n.1.numbers n.0 k f.some_bits n.1.single (row_held n.1.numbers (2 ^ k) p.1);
+      two_rows n.1.numbers n.0 k f.some_bits f.few_bits n.1.rest (row_held n.1.numbers (2 ^ k) p.1);
   bit_hue = λ k i x h b f l s.
       let n = known_bit k i x b s in
       within_from (hue x) h (record {
@@ -368,9 +366,8 @@ order_laws machine = record {
       let n = known_bit k i y b s in
       let q = subst (λ v. value_has k v bits ≡ true) n.1.value e in
       let a = residue_held n.1.numbers (2 ^ k) (number_of_bits bits) q in
-      let is : a.0 ≡ n.0 = (single_only n.1.numbers n.0 n.1.single a.0).0 a.1 in
-      let same : bits_of k n.0 ≡ bits =
-      ap (λ r. bits_from r k) (sym (ap (residue (2 ^ k)) is) ∙ a.2) ∙ ap (bits_from (number_of_bits bits)) (sym w) ∙ bits_from-number_of_bits bits in
+      let is : n.0 ≡ number_of_bits bits = sym (rest_held k n.1.numbers n.0 a.0 f.few_bits n.1.rest a.1) ∙ a.2 in
+      let same : bits_from n.0 k ≡ bits = ap (λ r. bits_from r k) is ∙ ap (bits_from (number_of_bits bits)) (sym w) ∙ bits_from-number_of_bits bits in
       subst (λ bs. bit_at bs i ≡ Some b) same n.2;
   has_blank = λ k y bits f l e n. value_has_some k y.value bits e n;
 }

@@ -234,15 +234,6 @@ single_only v n e = at v.shape e
     at (Few few) e = of_list few.items e
     at (Many p) e = cc
 
--- a set with a number within a single number is that number
-pub single_included : (a b : Ival) (n : ℤ) → Includes b a → is_empty a.shape ≡ false → single_of b.shape ≡ Some n → single_of a.shape ≡ Some n
-single_included a b n h e s =
-    let o = single_only b n s in
-    let k = some_held a e in
-    let is : k.0 ≡ n = (o k.0).0 (h k.0 k.1) in
-    let same : a ≡ b = Includes-antisymm a b (λ j m. subst (Holds a) (is ∙ sym ((o j).0 m)) k.1) h in
-    ap (λ (v : Ival). single_of v.shape) same ∙ s
-
 -- ---- some sets
 
 pub none_held : (n : ℤ) → Holds no_numbers n → ⊥

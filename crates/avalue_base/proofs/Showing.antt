@@ -1,5 +1,5 @@
 -- What bits in memory show of the cells that allow them.
-use Rattle.std.proofs.Common.{◌≡◌, ℕ, zero, suc, ◌+◌, ◌^◌, ◌<◌, Bool, true, false, ◌&&◌, ℤ, List, [], ◌∷◌, length, map, refl, sym, subst, ap, ◌∙◌, inl, inr, arith}
+use Rattle.std.proofs.Common.{◌≡◌, ℕ, zero, suc, ◌+◌, ◌^◌, ◌<◌, ◌≤◌, Bool, true, false, ◌&&◌, ℤ, List, [], ◌∷◌, length, map, refl, sym, subst, ap, ◌∙◌, inl, inr, arith}
 use Rattle.std.specs.Prelude.{Option, None, Some}
 use Rattle.std.specs.Ordering.{nat_cmp}
 use Rattle.std.specs.FinSet.{contains, contains-empty, same_set, nat_cmp-IsAntisymmetric}
@@ -9,25 +9,25 @@ use Rattle.std.proofs.lemmas.Nat.{pow_pos}
 use Rattle.std.proofs.lemmas.Bool.{and_parts, and_from}
 use Rattle.c_base.specs.declared.integer.Machine.{Machine}
 use Rattle.c_base.specs.declared.integer.Machine.TheVariants.{Lp64}
-use Rattle.c_base.specs.Integers.{residue, bits_from, bits_of, number_of_bits, in_byte_order}
+use Rattle.c_base.specs.Integers.{residue, bits_from, number_of_bits, in_byte_order}
 use Rattle.c_memory.specs.Values.{Cell, Uninit, Dead, Bit, Provenance, nowhere, bit_of}
 use Rattle.c_memory.specs.Layouts.{Layout}
 use Rattle.c_memory.specs.Rows.{RowCell, IsBit, AreBits, IsMixed, IsFlagged, AreBitsOf, AllowsSome}
 use Rattle.ival_core.specs.declared.value.Ival.{Ival}
-use Rattle.ival_core.specs.Views.{single_of}
 use Rattle.cell_laws.specs.Elements.{Place, spread, bit_at}
 use Rattle.cell_laws.specs.Order.{and_bit, known, is_admitted, is_bare}
 use Rattle.cell_laws.specs.Meaning.{Shows, ShowsAll}
 use Rattle.cell_laws.specs.Laws.{MeaningLaws}
 use Rattle.avalue_base.specs.Lists.{has_base, all_among}
-use Rattle.avalue_base.specs.Numbers.{is_empty_list, has_row}
+use Rattle.avalue_base.specs.Numbers.{is_empty_list, has_row, rest_in}
 use Rattle.avalue_base.specs.Values.{AVal, Separate, Mixed, Cellv, base_of, bases_of, has_no_value, parts_of, row_cell}
 use Rattle.avalue_base.specs.Order.{value_in, implies}
-use Rattle.avalue_base.specs.Hues.{Hue, hue, within, blank, value_admits, admits, known_number, bit_in, bit, value_has}
+use Rattle.avalue_base.specs.Hues.{Hue, hue, within, blank, value_admits, admits, known_rest, bit_in, bit, value_has}
 use Rattle.avalue_base.specs.Ops.{ops, Fine}
 use Rattle.avalue_base.specs.Meaning.{Allows, Tint, Bare, Sure}
 use Rattle.avalue_base.proofs.Lists.{among-has, among-refl}
-use Rattle.avalue_base.proofs.Sets.{row_held, row_residue, residue_held, single_only}
+use Rattle.avalue_base.proofs.Sets.{row_held, row_residue, residue_held}
+use Rattle.avalue_base.proofs.Rests.{rest_held}
 use Rattle.avalue_base.proofs.Words.{bits_from-number_of_bits, number_of_bits-below}
 use Rattle.avalue_base.proofs.Ordering.{implied, within_parts, admits_parts, empty_list, Known, known_parts, known_bit}
 use Rattle.avalue_base.proofs.Meanings.{Contains-has, has-Contains, nowhere_has, some_more, separate_allows, allows_separate, by_value, from_some, from_flags, allows_more}
@@ -74,10 +74,10 @@ flagged_bare x Uninit a = tt
 flagged_bare x Dead a = tt
 flagged_bare x (Bit b p i) a = absurd a
 
-flagged_not : (x : Cellv) (c : Cell) (n : ℤ) → Known x n → IsFlagged (row_cell x) c → ⊥
-flagged_not x Uninit n k a = let e = k.uninit in cc
-flagged_not x Dead n k a = let e = k.dead in cc
-flagged_not x (Bit b p i) n k a = a
+flagged_not : (k : ℕ) (x : Cellv) (c : Cell) (r : ℕ) → Known k x r → IsFlagged (row_cell x) c → ⊥
+flagged_not k x Uninit r h a = let e = h.uninit in cc
+flagged_not k x Dead r h a = let e = h.dead in cc
+flagged_not k x (Bit b p i) r h a = a
 
 pub same_mix : (l : Layout) (x : Cellv) (cells : List Cell) → AllowsSome l (row_cell x) cells (parts_of x.value) → AllByRecursion (IsMixed (row_cell x) (bases_of x.value)) cells
 same_mix l x cells a =
@@ -87,14 +87,14 @@ same_mix l x cells a =
     in_mix (Separate ns xs) = among-refl (map base_of xs)
     in_mix (Mixed bs) = among-refl bs
 
-sure_bits : (x : Cellv) (n : ℤ) → Known x n → (all : List Bool) (i : ℕ) (bs : List Bool) → ((j : ℕ) → bit_at all (i + j) ≡ bit_at bs j) → (cells : List Cell) → AreBits (row_cell x) nowhere bs cells →
+sure_bits : (k : ℕ) (x : Cellv) (r : ℕ) → Known k x r → (all : List Bool) (i : ℕ) (bs : List Bool) → ((j : ℕ) → bit_at all (i + j) ≡ bit_at bs j) → (cells : List Cell) → AreBits (row_cell x) nowhere bs cells →
     EachAt (λ j c. (b : Bool) → bit_at all j ≡ Some b → Sure b c) i cells
 unfolding bit_at
-sure_bits x n k all i [] h [] a = tt
-sure_bits x n k all i [] h (c ∷ cells) a = absurd a
-sure_bits x n k all i (b ∷ bs) h [] a = absurd a
-sure_bits x n k all i (b ∷ bs) h (c ∷ cells) a =
-    (sure c a.0, sure_bits x n k all (suc i) bs (λ j. subst (λ m. bit_at all m ≡ bit_at bs j) (next i j) (h (suc j))) cells a.1)
+sure_bits k x r n all i [] h [] a = tt
+sure_bits k x r n all i [] h (c ∷ cells) a = absurd a
+sure_bits k x r n all i (b ∷ bs) h [] a = absurd a
+sure_bits k x r n all i (b ∷ bs) h (c ∷ cells) a =
+    (sure c a.0, sure_bits k x r n all (suc i) bs (λ j. subst (λ m. bit_at all m ≡ bit_at bs j) (next i j) (h (suc j))) cells a.1)
   where
     next : (i j : ℕ) → i + suc j ≡ suc i + j
     next i j = omega arith
@@ -103,8 +103,8 @@ sure_bits x n k all i (b ∷ bs) h (c ∷ cells) a =
     same = omega arith
 
     sure : (c : Cell) → IsBit (row_cell x) b nowhere c → (d : Bool) → bit_at all i ≡ Some d → Sure d c
-    sure Uninit f d e = let u = k.uninit in cc
-    sure Dead f d e = let u = k.dead in cc
+    sure Uninit f d e = let u = n.uninit in cc
+    sure Dead f d e = let u = n.dead in cc
     sure (Bit y p j) f d e = (f.0 ∙ some_is b d (sym (h 0) ∙ subst (λ m. bit_at all m ≡ Some d) (sym same) e), f.1)
       where
         some_is : (b d : Bool) → Some b ≡ Some d → b ≡ d
@@ -113,44 +113,44 @@ sure_bits x n k all i (b ∷ bs) h (c ∷ cells) a =
 pub order_is : (m : Machine) (bs : List Bool) → in_byte_order m bs ≡ bs
 order_is Lp64 bs = refl
 
-sures : (l : Layout) (k : ℕ) (x : Cellv) (cells : List Cell) → length cells ≡ k → AllowsSome l (row_cell x) cells (parts_of x.value) → EachAt (λ j c. (b : Bool) → bit k j x ≡ Some b → Sure b c) 0 cells
-sures l k x cells e a = by_known (known_number x) refl
+sures : (l : Layout) (k : ℕ) (x : Cellv) (cells : List Cell) → k ≤ 64 → length cells ≡ k → AllowsSome l (row_cell x) cells (parts_of x.value) → EachAt (λ j c. (b : Bool) → bit k j x ≡ Some b → Sure b c) 0 cells
+sures l k x cells few e a = by_known (known_rest k x) refl
   where
     none : (i : ℕ) (cells : List Cell) → EachAt (λ j c. (b : Bool) → bit_in k j None ≡ Some b → Sure b c) i cells
     none i [] = tt
     none i (c ∷ cells) = ((λ b h. cc), none (suc i) cells)
 
-    by_part : (n : ℤ) → Known x n → (ns : Ival) → x.value ≡ Separate ns [] → single_of ns.shape ≡ Some n → AreBits (row_cell x) nowhere (bits_of k n) cells
-    by_part n h ns v s =
+    by_part : (r : ℕ) (ns : Ival) → x.value ≡ Separate ns [] → rest_in k ns.shape ≡ Some r → AreBits (row_cell x) nowhere (bits_from r k) cells
+    by_part r ns v s =
         elim (separate_allows l (row_cell x) cells ns [] (subst (λ w. AllowsSome l (row_cell x) cells (parts_of w)) v a)) [
           | inl q ↦
-              let is : q.number ≡ n = (single_only ns n s q.number).0 q.held in
-              subst (λ j. AreBits (row_cell x) nowhere (bits_from (residue (2 ^ j) n) j) cells) e
-              (subst (λ z. AreBits (row_cell x) nowhere (bits_from (residue (2 ^ length cells) z) (length cells)) cells) is
+              let is : residue (2 ^ k) q.number ≡ r = rest_held k ns r q.number few s q.held in
+              subst (λ z. AreBits (row_cell x) nowhere (bits_from z k) cells) is
+              (subst (λ j. AreBits (row_cell x) nowhere (bits_from (residue (2 ^ j) q.number) j) cells) e
               (subst (λ bs. AreBits (row_cell x) nowhere bs cells) (order_is l.machine (bits_from (residue (2 ^ length cells) q.number) (length cells))) q.bits))
           | inr q ↦ absurd q.among
         ]
 
-    by_known : (o : Option ℤ) → known_number x ≡ o → EachAt (λ j c. (b : Bool) → bit k j x ≡ Some b → Sure b c) 0 cells
+    by_known : (o : Option ℕ) → known_rest k x ≡ o → EachAt (λ j c. (b : Bool) → bit k j x ≡ Some b → Sure b c) 0 cells
     by_known None h = subst (λ o. EachAt (λ j c. (b : Bool) → bit_in k j o ≡ Some b → Sure b c) 0 cells) (sym h) (none 0 cells)
-    by_known (Some n) h =
-        let w = known_parts x n h in
+    by_known (Some r) h =
+        let w = known_parts k x r h in
         subst (λ o. EachAt (λ j c. (b : Bool) → bit_in k j o ≡ Some b → Sure b c) 0 cells) (sym h)
-        (sure_bits x n w (bits_of k n) 0 (bits_of k n) (λ j. ap (bit_at (bits_of k n)) (zero_plus j)) cells (by_part n w w.numbers w.value w.single))
+        (sure_bits k x r w (bits_from r k) 0 (bits_from r k) (λ j. ap (bit_at (bits_from r k)) (zero_plus j)) cells (by_part r w.numbers w.value w.rest))
       where
         zero_plus : (j : ℕ) → 0 + j ≡ j
         zero_plus j = omega arith
 
-pub allows_shown : (l : Layout) (k : ℕ) (x : Cellv) (cells : List Cell) → Allows l k x cells → ShowsAll (ops l.machine) Tint Bare Sure (spread k x 0 k) cells
-allows_shown l k x cells a =
+pub allows_shown : (l : Layout) (k : ℕ) (x : Cellv) (cells : List Cell) → k ≤ 64 → Allows l k x cells → ShowsAll (ops l.machine) Tint Bare Sure (spread k x 0 k) cells
+allows_shown l k x cells few a =
     shows_spread l.machine k x 0 k cells a.0
     (elim (by_value l x cells a.1) [
       | inl b ↦ each_at (IsFlagged (row_cell x)) (ShowsAt l.machine k x)
-          (λ i c g. record { tint = flagged_tint x c g; bare = λ e. flagged_bare x c g; sure = λ d e. let n = known_bit k i x d e in absurd (flagged_not x c n.0 n.1 g) }) 0 cells b.1
+          (λ i c g. record { tint = flagged_tint x c g; bare = λ e. flagged_bare x c g; sure = λ d e. let n = known_bit k i x d e in absurd (flagged_not k x c n.0 n.1 g) }) 0 cells b.1
       | inr b ↦ both_at (λ i c. Tint (hue x) c) (λ j c. (d : Bool) → bit k j x ≡ Some d → Sure d c) (ShowsAt l.machine k x)
           (λ i c t s. record { tint = t; bare = λ e. absurd (clash (has_no_value x.value) e b.0); sure = s }) 0 cells
           (each_at (IsMixed (row_cell x) (bases_of x.value)) (λ i c. Tint (hue x) c) (λ i c m. mixed_tint x c m) 0 cells (same_mix l x cells b.1))
-          (sures l k x cells a.0 b.1)
+          (sures l k x cells few a.0 b.1)
     ])
   where
     clash : (b : Bool) → b ≡ true → b ≡ false → ⊥
@@ -319,7 +319,7 @@ pub meaning_laws : (l : Layout) → MeaningLaws (ops l.machine) (Fine l.machine)
 meaning_laws l = record {
   allows_length = λ k x ks a. a.0;
   allows_leq = λ k x y ks f g h a. allows_more l k x y ks g h a;
-  allows_shows = λ k x ks f a. allows_shown l k x ks a;
+  allows_shows = λ k x ks f a. allows_shown l k x ks f.few_bits a;
   admitted = λ k y ps ks f g w h s.
       let e : length ks ≡ k = length-shown l.machine ps ks s ∙ w in
       let p : 0 < length ps = subst (λ j. 0 < j) (sym w) f.some_bits in

@@ -1,13 +1,12 @@
 -- What cells tell of their bits, and cells that are made from such knowledge.
-use Rattle.std.specs.Prelude.{ℕ, ◌^◌, ◌==◌, Bool, true, cond, ◌&&◌, ◌||◌, List, [], ◌∷◌, ℤ, Option, None, Some}
+use Rattle.std.specs.Prelude.{ℕ, ◌^◌, ◌==◌, Bool, true, cond, ◌&&◌, ◌||◌, List, [], ◌∷◌, Option, None, Some}
 use Rattle.c_base.specs.declared.integer.Machine.{Machine}
-use Rattle.c_base.specs.Integers.{bits_of, number_of_bits}
+use Rattle.c_base.specs.Integers.{bits_from, number_of_bits}
 use Rattle.c_memory.specs.declared.scalar.Scalar.TheVariants.{Pointer}
 use Rattle.c_memory.specs.Scalars.{bits_of_scalar}
 use Rattle.ival_core.specs.declared.value.Ival.{Ival}
-use Rattle.ival_core.specs.Views.{single_of}
 use Rattle.avalue_base.specs.Lists.{union_of, all_among}
-use Rattle.avalue_base.specs.Numbers.{is_empty_list, has_residue, has_row, bit_numbers, word, join_of}
+use Rattle.avalue_base.specs.Numbers.{is_empty_list, has_residue, has_row, rest_in, bit_numbers, word, join_of}
 use Rattle.avalue_base.specs.Values.{AVal, Separate, Mixed, Cellv, bases_of, has_no_value}
 use Rattle.avalue_base.specs.Order.{implies}
 use Rattle.cell_laws.specs.Elements.{bit_at}
@@ -39,22 +38,23 @@ value_admits k (Mixed others) bases = all_among bases others
 abbrev pub admits : ℕ → Cellv → Hue → Bool
 admits k c h = value_admits k c.value h.bases && (implies h.uninit c.uninit && implies h.dead c.dead)
 
-abbrev pub value_number : AVal → Option ℤ
-value_number (Separate numbers []) = single_of numbers.shape
-value_number (Separate numbers (a ∷ addresses)) = None
-value_number (Mixed bases) = None
+-- what all values leave modulo 2^k, where they are numbers and leave the same
+abbrev pub value_rest : ℕ → AVal → Option ℕ
+value_rest k (Separate numbers []) = rest_in k numbers.shape
+value_rest k (Separate numbers (a ∷ addresses)) = None
+value_rest k (Mixed bases) = None
 
--- the number, where nothing else is allowed
-abbrev pub known_number : Cellv → Option ℤ
-known_number c = cond (c.uninit || c.dead) None (value_number c.value)
+-- the number of k bits, where nothing else is allowed
+abbrev pub known_rest : ℕ → Cellv → Option ℕ
+known_rest k c = cond (c.uninit || c.dead) None (value_rest k c.value)
 
-abbrev pub bit_in : ℕ → ℕ → Option ℤ → Option Bool
+abbrev pub bit_in : ℕ → ℕ → Option ℕ → Option Bool
 bit_in k i None = None
-bit_in k i (Some n) = bit_at (bits_of k n) i
+bit_in k i (Some r) = bit_at (bits_from r k) i
 
 -- bit i of an element of k bits, where it is known
 abbrev pub bit : ℕ → ℕ → Cellv → Option Bool
-bit k i c = bit_in k i (known_number c)
+bit k i c = bit_in k i (known_rest k c)
 
 abbrev pub value_has : ℕ → AVal → List Bool → Bool
 value_has k (Separate numbers addresses) bits = has_residue numbers.shape (2 ^ k) (number_of_bits bits)

@@ -1,5 +1,6 @@
 -- What two values have in common.
 use Rattle.std.specs.Prelude.{ℕ, ◌^◌, nat_lt, Bool, true, cond, ◌&&◌, List, [], ◌∷◌, ◌++◌, filter, ℤ, pos, neg_ℤ, int_le, Option, None, Some}
+use Rattle.std.specs.List.{list_all}
 use Rattle.ival_core.specs.declared.value.Shape.{Shape}
 use Rattle.ival_core.specs.declared.value.Ival.{Ival}
 use Rattle.ival_core.specs.Views.{bounds_of}
@@ -25,6 +26,11 @@ meet_of a b = least_of (filter (holds_number b.shape) (list_of a.shape))
 abbrev pub lies_near : Option (ℤ × ℤ) → Bool
 lies_near None = true
 lies_near (Some ends) = int_le (neg_ℤ (pos (2 ^ 62))) ends.0 && int_le ends.1 (pos (2 ^ 62))
+
+-- so do all offsets of a value
+abbrev pub has_near_offsets : AVal → Bool
+has_near_offsets (Separate numbers addresses) = list_all (λ (a : Address). lies_near (bounds_of a.offsets.shape)) addresses
+has_near_offsets (Mixed bases) = true
 
 -- The offsets of both. Two offsets give one address where they differ by a multiple of the pointer's range, so far ones are not told apart.
 abbrev pub met_offsets : Ival → Ival → Ival

@@ -1,5 +1,5 @@
 -- Plain functions on sets of integers.
-use Rattle.std.specs.Prelude.{ℕ, suc, ◌-◌, ◌/◌, ◌^◌, ◌==◌, min, Bool, true, false, ℤ, pos, unsigned_abs, List, [], ◌∷◌}
+use Rattle.std.specs.Prelude.{ℕ, suc, ◌-◌, ◌/◌, ◌^◌, ◌==◌, min, Bool, true, false, ℤ, pos, unsigned_abs, List, [], ◌∷◌, Option, None, Some}
 use Rattle.std.specs.List.{list_any, list_all}
 use Rattle.std.specs.Int.{int_rem_euclid}
 use Rattle.c_base.specs.Integers.{residue}
@@ -9,8 +9,10 @@ use Rattle.ival_core.specs.declared.value.Shape.TheVariants.{Few, Many}
 use Rattle.ival_core.specs.declared.value.Ival.{Ival}
 use Rattle.ival_core.specs.Sets.{apart, steps_from}
 use Rattle.ival_core.specs.Joined.{joined}
+use Rattle.ival_core.specs.Views.{single_of}
 use Rattle.ival_core.proofs.Joined.{joined-makes}
 use Rattle.ival_arith.specs.Kinds.{holds_number}
+use Rattle.ival_arith.specs.Values.{residues}
 use Rattle.ival_bits.specs.Parts.{extracted, concatenated}
 use Rattle.ival_plain.proofs.Sound.{few_valid, bit_valid, word_valid, words_valid, part_valid, concat_valid}
 
@@ -39,6 +41,14 @@ lies_in s t = list_all (holds_number t) (list_of s)
 -- some number of s leaves r modulo m
 unfoldable pub has_residue : Shape → ℕ → ℕ → Bool
 has_residue s m r = list_any (λ n. residue m n == r) (list_of s)
+
+abbrev pub amount : Option ℤ → Option ℕ
+amount None = None
+amount (Some z) = Some (unsigned_abs z)
+
+-- what all numbers of s leave modulo 2^k, where they leave the same
+abbrev pub rest_in : ℕ → Shape → Option ℕ
+rest_in k s = amount (single_of (residues (2 ^ k) s))
 
 -- first and the numbers that follow it, so many in all, are numbers of s
 unfoldable pub has_all_from : Shape → ℕ → ℤ → Bool

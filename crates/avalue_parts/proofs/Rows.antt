@@ -6,6 +6,7 @@ use Rattle.std.specs.List.{list_any, list_all}
 use Rattle.std.proofs.Math.Nat.{pow-le-pow_right, mod-eq_of_lt}
 use Rattle.std.proofs.lemmas.Bool.{eqb-true}
 use Rattle.std.proofs.lemmas.Int.{ints}
+use Rattle.std.proofs.lemmas.Nat.{pow_pos}
 use lib.Signed.{◌<ℤ◌, ◌≤ℤ◌}
 use Rattle.cell_laws.specs.Elements.{bit_at}
 use Rattle.c_base.specs.Integers.{residue, bits_from, bits_of, number_of_bits}
@@ -17,7 +18,7 @@ use Rattle.ival_core.specs.declared.value.Progression.{Progression}
 use Rattle.ival_core.specs.declared.value.Ival.{Ival}
 use Rattle.ival_core.specs.Ivals.{Holds, Includes, IsMeet}
 use Rattle.ival_core.specs.Ranges.{InRange, run_shape}
-use Rattle.ival_core.specs.Sets.{IsValid, IsLongRun, Steps, apart, steps_from}
+use Rattle.ival_core.specs.Sets.{Has, IsValid, IsLongRun, Steps, apart, steps_from}
 use Rattle.ival_core.specs.Views.{single_of, bounds_of, numbers_of}
 use Rattle.ival_core.proofs.Canonical.{same_ival}
 use Rattle.ival_core.proofs.Distances.{meets_on, meets_back}
@@ -25,11 +26,15 @@ use Rattle.ival_core.proofs.Insertion.{Holds-number}
 use Rattle.ival_core.proofs.Remainders.{leaving}
 use Rattle.ival_core.proofs.Runs.{At, steps_from-at, steps_from-among, Steps-low}
 use Rattle.ival_arith.specs.Kinds.{holds_number}
+use Rattle.ival_arith.specs.Values.{residues}
 use Rattle.ival_arith.proofs.Bounding.{number_held, held_number}
+use Rattle.ival_arith.proofs.Reducing.{own_residue}
+use Rattle.ival_arith.proofs.Residuals.{residues_below}
+use Rattle.ival_arith.proofs.Words.{powers}
 use Rattle.ival_bits.specs.Parts.{extracted, concatenated}
 use Rattle.ival_bits.proofs.PartSets.{extract_single}
 use Rattle.ival_plain.proofs.Sound.{part_tops}
-use Rattle.avalue_base.specs.Numbers.{is_empty, list_of, has_residue, has_all_from, has_row, bit_numbers, word, part_of, concat_of}
+use Rattle.avalue_base.specs.Numbers.{is_empty, list_of, has_residue, has_all_from, has_row, bit_numbers, word, part_of, concat_of, amount, rest_in}
 use Rattle.avalue_base.specs.Hues.{bit_in}
 use Rattle.avalue_base.proofs.Lists.{In-any, all-In, In-all}
 use Rattle.avalue_base.proofs.Sets.{Among-In, In-Among, held_listed, some_held, held_some, residue_held, held_residue, Row, row_held, single_only}
@@ -96,15 +101,25 @@ one_bit zero h = refl
 one_bit (suc zero) h = refl
 one_bit (suc (suc q)) h = absurd (omega arith)
 
-pub bit_is : (v w : Ival) (n : ℤ) (k i : ℕ) (r : Bool) → single_of v.shape ≡ Some n → i < k → k ≤ 64 → w.shape ≡ extracted i 1 v.shape → IsTrue r ↔ Holds w (pos 1) → Some r ≡ bit_in k i (single_of v.shape)
-bit_is v w n k i r e h l x t =
+single_bit : (v w : Ival) (n : ℤ) (k i : ℕ) (r : Bool) → single_of v.shape ≡ Some n → i < k → k ≤ 64 → w.shape ≡ extracted i 1 v.shape → IsTrue r ↔ Holds w (pos 1) → Some r ≡ bit_at (bits_of k n) i
+single_bit v w n k i r e h l x t =
     let only = extract_single i 1 v w (omega arith) x n (single_only v n e) in
     let q = residue (2 ^ 1) (floor n (2 ^ i)) in
     let small : q < 2 = residue_below (2 ^ 1) (floor n (2 ^ i)) (omega arith) in
     let at : bit_at (bits_of k n) i ≡ Some (q == 1) = bit_take (bits_of k n) i (q == 1) (bits_of_part n i 1 k (omega arith) ∙ one_bit q small) in
     let same : r ≡ (q == 1) =
     same_bool r (q == 1) (λ a. eq-eqb q 1 (sym (unpos 1 q ((only (pos 1)).0 (t.0 a))))) (λ a. t.1 ((only (pos 1)).1 (ap pos (sym (eqb-true q 1 a))))) in
-    rw e (ap Some same ∙ sym at)
+    ap Some same ∙ sym at
+
+-- the rests of the numbers, in place of these
+pub bit_is : (v u w : Ival) (n : ℤ) (k i : ℕ) (r : Bool) → u.shape ≡ residues (2 ^ k) v.shape → single_of u.shape ≡ Some n → i < k → k ≤ 64 → w.shape ≡ extracted i 1 u.shape → IsTrue r ↔ Holds w (pos 1) → Some r ≡ bit_in k i (rest_in k v.shape)
+bit_is v u w n k i r f e h l x t =
+    let below = residues_below (2 ^ k) v.shape (pow_pos k) (powers k l) n (subst (λ s. Has s n) f ((single_only u n e n).1 refl)) in
+    let own : residue (2 ^ k) n ≡ unsigned_abs n = ap unsigned_abs (own_residue (2 ^ k) n below.above below.below) in
+    single_bit u w n k i r e h l x t ∙ ap (λ m. bit_at (bits_from m k) i) own ∙ sym (ap (λ s. bit_in k i (amount (single_of s))) (sym f) ∙ ap (λ o. bit_in k i (amount o)) e)
+
+pub no_bit : (v u : Ival) (k i : ℕ) → u.shape ≡ residues (2 ^ k) v.shape → single_of u.shape ≡ None → None ≡ bit_in k i (rest_in k v.shape)
+no_bit v u k i f e = sym (ap (λ s. bit_in k i (amount (single_of s))) (sym f) ∙ ap (λ o. bit_in k i (amount o)) e)
 
 -- ---- rests
 

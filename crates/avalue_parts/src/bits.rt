@@ -3,12 +3,12 @@ ghost use Rattle.std.specs.Prelude.{◌≡◌, ◌+◌, ◌*◌, ◌<◌, ◌≤
 ghost use Rattle.std.specs.List.{list_any};
 ghost use Rattle.c_base.specs.Integers.{number_of_bits};
 ghost use Rattle.ival_core.specs.Sets.{IsNumber, AllNumbers};
-ghost use Rattle.ival_core.specs.Views.{single_of};
 ghost use Rattle.avalue_base.specs.Hues.{bit_in};
-ghost use Rattle.avalue_base.specs.Numbers.{bit_numbers, concat_of, has_all_from, has_residue, has_row, part_of, word};
+ghost use Rattle.avalue_base.specs.Numbers.{bit_numbers, concat_of, has_all_from, has_residue, has_row, part_of, rest_in, word};
 
 use crate::orders::is_none;
 use c_base::format::power;
+use ival_arith::residues;
 use ival_bits::{concat, extract};
 use ival_core::{Ival, LIMIT, run_from};
 
@@ -65,15 +65,16 @@ pub fn glued(low: &Ival, bits: u32, high: &Ival, more: u32) -> Ival
     concat(low, bits, &top)
 }
 
-/// The bit at an index of elements of so many bits, where there is one number alone.
+/// The bit at an index of elements of so many bits, where all numbers have the same bits there.
 pub fn known_bit(numbers: &Ival, bits: u64, index: u64) -> Option<bool>
     requires few { bits ≤ 64 }
     requires inside { index < bits }
-    ensures { result ≡ bit_in bits index (single_of numbers.now.shape) }
+    ensures { result ≡ bit_in bits index (rest_in bits numbers.now.shape) }
 {
-    match numbers.as_single() {
+    let rests = residues(numbers, power(bits as u32));
+    match rests.as_single() {
         None => None,
-        Some(_) => Some(extract(numbers, index as u32, 1).contains(1)),
+        Some(_) => Some(extract(&rests, index as u32, 1).contains(1)),
     }
 }
 

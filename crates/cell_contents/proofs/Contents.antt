@@ -1,38 +1,30 @@
 -- Which contents cells of values have, and which cells have one alone.
-use Rattle.std.proofs.Common.{◌≡◌, ◌⊎◌, ℕ, zero, suc, ◌^◌, ◌<◌, ◌≤◌, ◌==◌, Bool, true, false, cond, ◌&&◌, ◌||◌, ℤ, pos, ◌+ℤ◌, List, [], ◌∷◌, length, map, refl, sym, subst, ap, ◌∙◌, inl, inr, arith, eq-eqb}
-use Rattle.std.specs.Prelude.{not, is_some, Option, None, Some}
-use Rattle.std.specs.FinSet.{contains}
+use Rattle.std.proofs.Common.{◌≡◌, ℕ, zero, suc, ◌^◌, ◌<◌, Bool, true, false, ℤ, pos, ◌+ℤ◌, List, [], ◌∷◌, length, map, refl, sym, subst, ap, ◌∙◌, inl, inr, arith}
+use Rattle.std.specs.Prelude.{not}
 use Rattle.std.specs.List.{AllByRecursion, list_all}
-use Rattle.std.proofs.lemmas.Bool.{and_parts, and_from, or_cases, or_left, or_right, eqb-true}
+use Rattle.std.proofs.lemmas.Bool.{and_parts, or_cases, eqb-true}
 use Rattle.std.proofs.lemmas.Nat.{pow_pos}
-use Rattle.c_base.specs.declared.integer.Machine.{Machine}
-use Rattle.c_base.specs.declared.integer.Machine.TheVariants.{Lp64}
 use Rattle.c_base.specs.Integers.{residue, bits_from, bits_of, in_byte_order, number_of_bits}
 use Rattle.c_base.proofs.Bits.{length-bits_from, number_of_bits-bits_from}
 use Rattle.c_base.proofs.Residues.{residue_below}
 use Rattle.c_memory.specs.Values.{Cell, Uninit, Dead, Bit, Provenance, nowhere, only}
 use Rattle.c_memory.specs.Layouts.{Layout}
-use Rattle.c_memory.specs.Rows.{RowCell, AreBits, IsMixed, IsFlagged, AreBitsOf, AllowsSome}
-use Rattle.offmap_laws.specs.Contents.{AllAlike, SingleLaws}
+use Rattle.c_memory.specs.Rows.{RowCell, AreBits, IsMixed, IsFlagged, AreBitsOf}
+use Rattle.offmap_laws.specs.Contents.{AllAlike}
 use Rattle.ival_core.specs.declared.value.Ival.{Ival}
 use Rattle.ival_core.specs.Ivals.{Holds}
 use Rattle.avalue_base.specs.Lists.{In}
-use Rattle.avalue_base.specs.Numbers.{is_empty, is_empty_list}
-use Rattle.avalue_base.specs.Values.{Address, AVal, Separate, Mixed, Cellv, has_no_value, parts_of, row_cell}
-use Rattle.avalue_base.specs.Hues.{blank, pointer_bits, fits_value}
+use Rattle.avalue_base.specs.Numbers.{is_empty}
+use Rattle.avalue_base.specs.Values.{Address, AVal, Separate, Mixed, Cellv, has_no_value, row_cell}
+use Rattle.avalue_base.specs.Hues.{pointer_bits, fits_value}
 use Rattle.avalue_base.specs.Pieces.{has_offsets}
-use Rattle.avalue_base.specs.Ops.{Fine, have_offsets}
-use Rattle.avalue_base.specs.Meaning.{AllowsBy, Allows}
+use Rattle.avalue_base.specs.Ops.{Fine}
+use Rattle.avalue_base.specs.Meaning.{Allows}
 use Rattle.avalue_base.specs.Singles.{SameCell}
-use Rattle.avalue_base.proofs.Lists.{all-In, In-all}
-use Rattle.avalue_base.proofs.Sets.{empty_none, some_held, none_empty, held_some}
-use Rattle.avalue_base.proofs.Ordering.{nothing_parts, nothing_from, empty_list}
-use Rattle.avalue_base.proofs.Joins.{false_or_true}
-use Rattle.avalue_base.proofs.Meanings.{nowhere_has, only_has, self_has, PlainIn, AddressIn, separate_allows, allows_separate, some_value, by_value, from_some, from_flags}
+use Rattle.avalue_base.proofs.Sets.{some_held}
+use Rattle.avalue_base.proofs.Ordering.{nothing_from}
+use Rattle.avalue_base.proofs.Meanings.{nowhere_has, allows_separate, from_some, from_flags}
 use Rattle.avalue_base.proofs.Showing.{order_is}
-use Rattle.cell_contents.specs.Contents.{rest_in, is_rest, all_leave, is_one_value, is_one_flag, is_single}
-use Rattle.cell_contents.proofs.Rests.{rest_held, held_rest, rest_plus, rest_minus}
-use Rattle.cell_contents.proofs.Worlds.{machine_is}
 
 -- ---- bits without flags
 

@@ -1,17 +1,16 @@
 -- What is left of cells when a base has died.
-use Rattle.std.proofs.Common.{◌≡◌, ◌⊎◌, ℕ, ◌<◌, ◌≤◌, ◌==◌, Bool, true, false, cond, ◌&&◌, ◌||◌, List, [], ◌∷◌, map, refl, sym, ap, ◌∙◌, subst, arith, inl, inr}
+use Rattle.std.proofs.Common.{◌≡◌, ◌⊎◌, ℕ, ◌<◌, ◌≤◌, ◌==◌, Bool, true, false, cond, ◌||◌, List, [], ◌∷◌, map, refl, sym, ap, subst, arith, inl, inr}
 use Rattle.std.specs.Prelude.{not}
 use Rattle.std.proofs.lemmas.Bool.{or_cases, or_left, or_right, eqb-true}
 use Rattle.c_base.specs.declared.integer.Machine.{Machine}
 use Rattle.c_base.specs.declared.integer.Machine.TheVariants.{Lp64}
-use Rattle.c_memory.specs.Values.{Cell, wither}
+use Rattle.c_memory.specs.Values.{wither}
 use Rattle.c_memory.specs.Layouts.{Layout}
 use Rattle.run_orders.specs.Deaths.{LeftLaws}
 use Rattle.offmap_laws.specs.Contents.{DeathLaws}
-use Rattle.ival_core.specs.declared.value.Ival.{Ival}
 use Rattle.avalue_base.specs.Lists.{has_base, In}
 use Rattle.avalue_base.specs.Numbers.{is_empty_list, words}
-use Rattle.avalue_base.specs.Values.{Address, AVal, Separate, Mixed, Cellv, base_of, bases_of, has_no_value}
+use Rattle.avalue_base.specs.Values.{AVal, Separate, Mixed, Cellv, base_of, bases_of, has_no_value}
 use Rattle.avalue_base.specs.Hues.{blank, pointer_bits, fits_value}
 use Rattle.avalue_base.specs.Deaths.{without, mix_or_words, value_left, forgotten}
 use Rattle.avalue_base.specs.Ops.{ops, Fine, have_offsets}

@@ -1,4 +1,3 @@
-pub mod Rests
 pub mod Contents
 pub mod Singles
 pub mod Worlds

@@ -1,11 +1,10 @@
 -- The test for single cells is true of those alone that have one content.
-use Rattle.std.proofs.Common.{◌≡◌, ◌⊎◌, ℕ, zero, suc, ◌%◌, ◌^◌, ◌<◌, ◌≤◌, ◌==◌, Bool, true, false, cond, ◌&&◌, ◌||◌, ℤ, pos, ◌+ℤ◌, List, [], ◌∷◌, length, refl, sym, subst, ap, ◌∙◌, inl, inr, arith, eq-eqb}
+use Rattle.std.proofs.Common.{◌≡◌, ◌⊎◌, ℕ, ◌^◌, ◌<◌, ◌≤◌, ◌==◌, Bool, true, false, cond, ◌&&◌, ℤ, pos, ◌+ℤ◌, List, [], ◌∷◌, length, refl, sym, subst, ap, ◌∙◌, inl, inr, arith, eq-eqb}
 use Rattle.std.specs.Prelude.{not, is_some, Option, None, Some}
 use Rattle.std.specs.FinSet.{contains}
 use Rattle.std.specs.List.{AllByRecursion, list_all}
 use Rattle.std.proofs.lemmas.Bool.{and_parts, and_from, or_cases, or_left, or_right, eqb-true}
 use Rattle.std.proofs.lemmas.Nat.{pow_pos}
-use Rattle.std.proofs.Math.Nat.{mod-eq_of_lt}
 use Rattle.c_base.specs.declared.integer.Machine.{Machine}
 use Rattle.c_base.specs.declared.integer.Machine.TheVariants.{Lp64}
 use Rattle.c_base.specs.Integers.{residue, bits_of}
@@ -17,20 +16,20 @@ use Rattle.offmap_laws.specs.Contents.{AllAlike, SingleLaws}
 use Rattle.ival_core.specs.declared.value.Ival.{Ival}
 use Rattle.ival_core.specs.Ivals.{Holds}
 use Rattle.avalue_base.specs.Lists.{In}
-use Rattle.avalue_base.specs.Numbers.{is_empty}
+use Rattle.avalue_base.specs.Numbers.{is_empty, rest_in}
 use Rattle.avalue_base.specs.Values.{Address, AVal, Separate, Mixed, Cellv, has_no_value, parts_of, row_cell}
-use Rattle.avalue_base.specs.Hues.{pointer_bits, fits_value}
+use Rattle.avalue_base.specs.Hues.{pointer_bits}
 use Rattle.avalue_base.specs.Pieces.{has_offsets}
-use Rattle.avalue_base.specs.Ops.{Fine, have_offsets}
+use Rattle.avalue_base.specs.Ops.{Fine}
 use Rattle.avalue_base.specs.Meaning.{Allows}
 use Rattle.avalue_base.specs.Singles.{SameCell}
 use Rattle.avalue_base.proofs.Lists.{all-In, In-all}
 use Rattle.avalue_base.proofs.Sets.{empty_none, some_held, none_empty}
 use Rattle.avalue_base.proofs.Ordering.{nothing_from}
 use Rattle.avalue_base.proofs.Meanings.{nowhere_has, only_has, self_has, PlainIn, AddressIn, separate_allows, some_value, by_value}
-use Rattle.cell_contents.specs.Contents.{rest_in, is_rest, all_leave, is_one_value, is_one_flag, is_single}
-use Rattle.cell_contents.proofs.Rests.{rest_held, held_rest, rest_plus, rest_minus}
-use Rattle.cell_contents.proofs.Contents.{number_cells, length-number, number_alike, same_rest, rest_same, alike_sym, alike_trans, alike_provenance, all_uninit, all_dead, number_content, address_content, mixed_content, uninit_content, dead_content, Value, some_bits, some_content, bits_not_uninit, bits_not_dead, uninit_not_dead}
+use Rattle.cell_contents.specs.Contents.{is_rest, all_leave, is_one_value, is_one_flag, is_single}
+use Rattle.avalue_base.proofs.Rests.{rest_held, held_rest, rest_plus, rest_minus, zero_one}
+use Rattle.cell_contents.proofs.Contents.{number_cells, number_alike, same_rest, rest_same, alike_sym, alike_trans, alike_provenance, all_uninit, all_dead, number_content, address_content, mixed_content, uninit_content, dead_content, some_bits, some_content, bits_not_uninit, bits_not_dead, uninit_not_dead}
 use Rattle.cell_contents.proofs.Worlds.{machine_is}
 
 pub not_true : (b : Bool) → not b ≡ true → b ≡ true → ⊥
@@ -243,13 +242,6 @@ one_value l k (Separate ns []) u d f e h = one_number l k u d ns f.few_bits (som
 one_value l k (Separate ns (z ∷ zs)) u d f e h = one_address l k u d ns z zs f.some_bits f.few_bits (eqb-true k (pointer_bits l.machine) f.fits) f.offsets h
 one_value l k (Mixed bs) u d f e h =
     absurd (let s = same_rest k nowhere nowhere (pos 0) (pos 1) (h (number_cells k nowhere (pos 0)) (number_cells k nowhere (pos 1)) (mixed_content l k u d bs (pos 0)) (mixed_content l k u d bs (pos 1))) in zero_one k f.some_bits s)
-  where
-    zero_one : (k : ℕ) → 0 < k → residue (2 ^ k) (pos 0) ≡ residue (2 ^ k) (pos 1) → ⊥
-    zero_one k h e = let p = two_more k h in let a : 0 % 2 ^ k ≡ 0 = mod-eq_of_lt (omega arith) in let b : 1 % 2 ^ k ≡ 1 = mod-eq_of_lt p in omega arith
-      where
-        two_more : (k : ℕ) → 0 < k → 1 < 2 ^ k
-        two_more zero h = absurd (omega arith)
-        two_more (suc k) h = let p = pow_pos k in omega arith
 
 one_single : (l : Layout) (k : ℕ) (c : Cellv) → Fine l.machine k c → OneContent l k c → is_single k c ≡ true
 unfolding OneContent

@@ -1,19 +1,8 @@
 -- Which cells of values have one content.
-use Rattle.std.specs.Prelude.{ℕ, ◌^◌, ◌==◌, Bool, true, false, cond, ◌&&◌, ◌||◌, not, is_some, List, [], ◌∷◌, ℤ, unsigned_abs, Option, None, Some}
+use Rattle.std.specs.Prelude.{ℕ, ◌==◌, Bool, false, cond, ◌&&◌, ◌||◌, not, is_some, List, [], ◌∷◌, Option, None, Some}
 use Rattle.std.specs.List.{list_all}
-use Rattle.ival_core.specs.declared.value.Shape.{Shape}
-use Rattle.ival_core.specs.Views.{single_of}
-use Rattle.ival_arith.specs.Values.{residues}
-use Rattle.avalue_base.specs.Numbers.{is_empty}
+use Rattle.avalue_base.specs.Numbers.{is_empty, rest_in}
 use Rattle.avalue_base.specs.Values.{Address, AVal, Separate, Mixed, Cellv, has_no_value}
-
-abbrev pub amount : Option ℤ → Option ℕ
-amount None = None
-amount (Some z) = Some (unsigned_abs z)
-
--- what all numbers of a set leave modulo 2^k, where they leave the same
-abbrev pub rest_in : ℕ → Shape → Option ℕ
-rest_in k s = amount (single_of (residues (2 ^ k) s))
 
 abbrev pub is_rest : ℕ → Option ℕ → Bool
 is_rest r None = false

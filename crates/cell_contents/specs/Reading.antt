@@ -1,5 +1,5 @@
 -- What loads make of memory's bits.
-use Rattle.std.specs.Prelude.{◌≡◌, Bool, true, false, List}
+use Rattle.std.specs.Prelude.{◌≡◌, true, false, List}
 use Rattle.std.specs.List.{list_any}
 use Rattle.c_memory.specs.Values.{Cell, Uninit, Dead, Bit, nowhere, is_uninit, is_dead}
 use Rattle.offmap_laws.specs.Contents.{AllAlike}

@@ -1,24 +1,21 @@
 -- Values with more than one address.
-use Rattle.std.proofs.Common.{◌≡◌, ℕ, suc, ◌<◌, ◌==◌, Bool, true, false, ◌&&◌, List, [], ◌∷◌, length, refl, sym, ap, ◌∙◌, subst, inl, arith}
+use Rattle.std.proofs.Common.{◌≡◌, ℕ, ◌<◌, ◌==◌, Bool, true, false, ◌&&◌, List, [], ◌∷◌, length, refl, sym, ap, ◌∙◌, subst, inl, arith}
 use Rattle.std.specs.Prelude.{is_some, Option, None, Some}
-use Rattle.std.specs.List.{list_all}
 use Rattle.std.proofs.lemmas.Bool.{ne_eqb}
-use Rattle.ival_core.specs.declared.value.Ival.{Ival}
 use Rattle.ival_core.specs.declared.value.Shape.{Shape}
 use Rattle.ival_core.specs.declared.value.Shape.TheVariants.{Few}
 use Rattle.avalue_base.specs.Lists.{AreAscending}
-use Rattle.avalue_base.specs.Numbers.{is_empty, no_numbers}
+use Rattle.avalue_base.specs.Numbers.{is_empty, no_numbers, rest_in}
 use Rattle.avalue_base.specs.Values.{Address, AVal, Separate, Mixed, base_of}
-use Rattle.avalue_base.specs.Pieces.{no_value}
 use Rattle.avalue_values.specs.Views.{addresses_of, held_value}
-use Rattle.cell_contents.specs.Contents.{rest_in, is_rest, all_leave, is_one_value}
+use Rattle.cell_contents.specs.Contents.{is_rest, all_leave, is_one_value}
 
 and_false : (b : Bool) → (b && false) ≡ false
 and_false true = refl
 and_false false = refl
 
 -- of two addresses one has another base
-two_leave : (k : ℕ) (a b : Address) (xs : List Address) (o : Option ℕ) → a.base < b.base → all_leave k a.base o (a ∷ b ∷ xs) ≡ false
+pub two_leave : (k : ℕ) (a b : Address) (xs : List Address) (o : Option ℕ) → a.base < b.base → all_leave k a.base o (a ∷ b ∷ xs) ≡ false
 two_leave k a b xs None h = refl
 two_leave k a b xs (Some r) h =
     let e : (b.base == a.base) ≡ false = ne_eqb b.base a.base (λ z. omega arith) in

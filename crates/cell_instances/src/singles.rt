@@ -1,8 +1,8 @@
 //! Which cells of values have one content.
 ghost use Rattle.std.specs.Prelude.{◌≡◌, ◌≤◌, ◌^◌, is_some};
-ghost use Rattle.avalue_base.specs.Numbers.{is_empty};
+ghost use Rattle.avalue_base.specs.Numbers.{is_empty, rest_in};
 ghost use Rattle.avalue_values.specs.Views.{held_value};
-ghost use Rattle.cell_contents.specs.Contents.{rest_in, is_one_value, is_single};
+ghost use Rattle.cell_contents.specs.Contents.{is_one_value, is_single};
 
 use avalue::{AVal, Cellv};
 use c_base::format::power;

@@ -169,6 +169,11 @@ module _ {C H : Type 0} (o : Ops C H) (Fine : ℕ → C → Type 0) (sole : ℕ 
         | inr b ↦ subst (AllSole sole) (sym (filled_whole o k c b)) (s, tt)
       ])
 
+module _ {C H : Type 0} (o : Ops C H) (sole : ℕ → C → Bool) where
+  pub sole_put_blank : (k : ℕ) (c : C) → o.blank c ≡ true → sole 1 c ≡ true → o.fit k c ≡ c → AllSole sole (put o k c)
+  unfolding put
+  sole_put_blank k c b s e = subst (λ (x : C). AllSole sole (filled o k x)) (sym e) (subst (AllSole sole) (sym (filled_blank o k c b)) (sole_replicate sole k 1 c s))
+
 -- what is left when an object has died
 module _ {C H : Type 0} (o : Ops C H) (Fine : ℕ → C → Type 0) (sole : ℕ → C → Bool) (left : C → C) (d : SoleDeath Fine o.blank sole left) where
   sole_filled : (k : ℕ) (c : C) → (o.blank c ≡ false → sole k c ≡ true) → (o.blank c ≡ true → sole 1 c ≡ true) → AllSole sole (filled o k c)

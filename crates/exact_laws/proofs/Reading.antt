@@ -15,12 +15,12 @@ use Rattle.exact_laws.specs.Laws.{OnlyReads, ReadLaws}
 use Rattle.exact_laws.proofs.Closing.{AllSole, not_rigid, sole_copied}
 
 -- what is made of some elements: it gives the content and nothing else
-record Reading {C H K : Type 0} (o : Ops C H) (Gives : ℕ → C → List K → Type 0) (Reads : List K → List K → Type 0) (settled : C → Bool) (es : List (Element C)) (ks : List K) : Type 0 where
-  settles : settled (glued o es) ≡ true
+record Reading {C H K : Type 0} (o : Ops C H) (Gives : ℕ → C → List K → Type 0) (Reads : List K → List K → Type 0) (settled : ℕ → C → Bool) (es : List (Element C)) (ks : List K) : Type 0 where
+  settles : settled (width es) (glued o es) ≡ true
   gives : Gives (width es) (glued o es) ks
   reads : OnlyReads Gives Reads (width es) (glued o es) ks
 
-module _ {C H K : Type 0} (o : Ops C H) (Fine : ℕ → C → Type 0) (Allows Gives : ℕ → C → List K → Type 0) (Reads : List K → List K → Type 0) (sole : ℕ → C → Bool) (rigid settled : C → Bool)
+module _ {C H K : Type 0} (o : Ops C H) (Fine : ℕ → C → Type 0) (Allows Gives : ℕ → C → List K → Type 0) (Reads : List K → List K → Type 0) (sole : ℕ → C → Bool) (rigid : C → Bool) (settled : ℕ → C → Bool)
     (n : FineLaws o Fine) (a : AccessLaws o Fine Allows Gives) (l : ReadLaws o Fine Allows Gives Reads sole rigid settled) where
   abbrev AllLoose : List (Element C) → Type 0
   AllLoose [] = Unit {0}
@@ -43,7 +43,7 @@ module _ {C H K : Type 0} (o : Ops C H) (Fine : ℕ → C → Type 0) (Allows Gi
       let t : take e.bits ks ≡ ks = take_all e.bits ks (omega arith) in
       let i : e.bits ≡ e.bits + 0 = omega arith in
       record {
-        settles = l.one_settled e.bits e.cell f.0 s.0 r.0;
+        settles = subst (λ (x : ℕ). settled x e.cell ≡ true) i (l.one_settled e.bits e.cell f.0 s.0 r.0);
         gives = subst (λ (x : ℕ). Gives x e.cell ks) i (a.one_gives e.bits e.cell ks f.0 (subst (Allows e.bits e.cell) t d.0));
         reads = one_reading e ks f.0 s.0 w d;
       }

@@ -26,6 +26,8 @@ pub record SoleLaws {C H K : Type 0} (o : Ops C H) (Fine : ℕ → C → Type 0)
   pub blank_same : (x y : C) (ks : List K) → Fine 1 x → Fine 1 y → sole 1 x ≡ true → sole 1 y ≡ true → o.blank x ≡ true → o.blank y ≡ true → Allows 1 x ks → Allows 1 y ks → x ≡ y
   pub rigid_bits : (j k : ℕ) (x y : C) → Fine j x → Fine k y → sole j x ≡ true → sole k y ≡ true → rigid x ≡ true → rigid y ≡ true → j ≡ k
   pub rigid_same : (k : ℕ) (x y : C) (ks : List K) → Fine k x → Fine k y → sole k x ≡ true → sole k y ≡ true → rigid x ≡ true → rigid y ≡ true → Allows k x ks → Allows k y ks → x ≡ y
+  -- a blank one is stored as it is
+  pub fit_blank : (k : ℕ) (c : C) → 0 < k → k ≤ 64 → Fine 1 c → sole 1 c ≡ true → o.blank c ≡ true → o.fit k c ≡ c
   -- parts of what isn't rigid
   pub piece_sole : (k : ℕ) (c : C) (low n : ℕ) → Fine k c → 0 < n → n < k → low + n ≤ k → rigid c ≡ false → sole k c ≡ true → sole n (o.piece k c low n) ≡ true
   pub piece_loose : (k : ℕ) (c : C) (low n : ℕ) → Fine k c → 0 < n → n < k → low + n ≤ k → rigid c ≡ false → rigid (o.piece k c low n) ≡ false
@@ -38,13 +40,13 @@ pub record KeepsSole {C K : Type 0} (Fine : ℕ → C → Type 0) (Allows : ℕ 
 abbrev pub OnlyReads : {C K : Type 0} → (ℕ → C → List K → Type 0) → (List K → List K → Type 0) → ℕ → C → List K → Type 0
 OnlyReads {C} {K} Gives Reads k c ks = (ls : List K) → Gives k c ls → Reads ls ks
 
--- `settled c`: the cell has one number alone, or no value
+-- `settled k c`: the cell has one number of k bits alone, or no value
 pub record ReadLaws {C H K : Type 0} (o : Ops C H) (Fine : ℕ → C → Type 0) (Allows Gives : ℕ → C → List K → Type 0) (Reads : List K → List K → Type 0)
-    (sole : ℕ → C → Bool) (rigid settled : C → Bool) : Type 0 where
+    (sole : ℕ → C → Bool) (rigid : C → Bool) (settled : ℕ → C → Bool) : Type 0 where
   pub one_reads : (k : ℕ) (c : C) (ks : List K) → Fine k c → sole k c ≡ true → Allows k c ks → OnlyReads Gives Reads k c ks
-  pub one_settled : (k : ℕ) (c : C) → Fine k c → sole k c ≡ true → rigid c ≡ false → settled c ≡ true
-  pub glue_settled : (j k : ℕ) (c d : C) → Fine j c → 0 < k → j + k ≤ 64 → sole j c ≡ true → rigid c ≡ false → settled d ≡ true → settled (o.glue j c k d) ≡ true
-  pub glue_reads : (j k : ℕ) (c d : C) (js ks : List K) → Fine j c → 0 < k → j + k ≤ 64 → sole j c ≡ true → rigid c ≡ false → settled d ≡ true → Allows j c js → Gives k d ks →
+  pub one_settled : (k : ℕ) (c : C) → Fine k c → sole k c ≡ true → rigid c ≡ false → settled k c ≡ true
+  pub glue_settled : (j k : ℕ) (c d : C) → Fine j c → 0 < k → j + k ≤ 64 → sole j c ≡ true → rigid c ≡ false → settled k d ≡ true → settled (j + k) (o.glue j c k d) ≡ true
+  pub glue_reads : (j k : ℕ) (c d : C) (js ks : List K) → Fine j c → 0 < k → j + k ≤ 64 → sole j c ≡ true → rigid c ≡ false → settled k d ≡ true → Allows j c js → Gives k d ks →
       OnlyReads Gives Reads k d ks → OnlyReads Gives Reads (j + k) (o.glue j c k d) (js ++ ks)
 
 -- what is left of a sole cell when an object has died has one content

@@ -13,8 +13,8 @@ pub trait Sole<C: Cells, M: Concrete<C>> {
     /// It tells no content of its parts.
     ghost rigid: { C → Bool };
 
-    /// It has one number alone, or no value.
-    ghost settled: { C → Bool };
+    /// It has one number of so many bits alone, or no value.
+    ghost settled: { ℕ → C → Bool };
 
     ghost sole_laws: { (world : M.World) → SoleLaws C.ops C.fine M.bare M.sure M.alike (M.allows world) M.bound sole rigid };
 
