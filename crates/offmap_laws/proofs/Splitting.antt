@@ -3,12 +3,15 @@ use Rattle.std.proofs.Common.{◌≡◌, ℕ, zero, suc, ◌+◌, ◌≤◌, Boo
 use Rattle.std.proofs.lemmas.List.{take-append-drop, drop-drop, drop-take, take-take}
 use Rattle.cell_laws.specs.Elements.{Element, width, AllFine}
 use Rattle.cell_laws.specs.Cells.{Ops}
-use Rattle.cell_laws.specs.Laws.{FineLaws, PartLaws, AccessLaws}
+use Rattle.cell_laws.specs.Laws.{FineLaws, OrderLaws, JoinLaws, MeaningLaws, PartLaws, AccessLaws}
+use Rattle.cell_laws.specs.Join.{joined, joined_cell}
 use Rattle.cell_laws.specs.Meaning.{Describes}
 use Rattle.cell_laws.specs.Access.{take_bits, drop_bits, copied, pasted, put, repeated, stored, glued, loaded, IsSize}
 use Rattle.cell_laws.proofs.Parts.{width-take, fine_take, describes-append, pasted_part}
 use Rattle.cell_laws.proofs.Accesses.{width-put, fine_put, put_describes, repeated_one, repeated_whole}
+use Rattle.cell_laws.proofs.Joins.{joined_above, joined_cell_laws}
 use Rattle.offmap_laws.specs.Parts.{ArePasted, AllTimes}
+use Rattle.offmap_laws.proofs.Contents.{joined_there, cell_within}
 
 module _ {C K : Type 0} (Allows : ℕ → C → List K → Type 0) where
   pub describes_split : (xs ys : List (Element C)) (ks : List K) → Describes Allows (xs ++ ys) ks → Describes Allows xs (take (width xs) ks) × Describes Allows ys (drop (width xs) ks)
@@ -77,3 +80,16 @@ module _ {C H : Type 0} (o : Ops C H) (Fine : ℕ → C → Type 0) (nl : FineLa
       let p : copied o (pasted o m at (put o k c)) at k ≡ put o k c =
       subst (λ (n : ℕ). copied o (pasted o m at (put o k c)) at n ≡ put o k c) w (pasted_part o Fine nl m at (put o k c) (fine_take o Fine pl m at f) (fine_put o Fine pl k c s) (omega arith)) in
       ap (glued o) (p ∙ put_one k c b) ∙ glued_one (record { bits = k; cell = o.fit k c })
+
+module _ {C H K : Type 0} (o : Ops C H) (Fine : ℕ → C → Type 0) (Tint : H → K → Type 0) (Bare : K → Type 0) (Sure : Bool → K → Type 0) (Allows : ℕ → C → List K → Type 0)
+    (nl : FineLaws o Fine) (ol : OrderLaws o Fine) (jl : JoinLaws o Fine) (ml : MeaningLaws o Fine Tint Bare Sure Allows) where
+  pub joined_only : (xs ys vs ws : List (Element C)) (k : ℕ) (x y : C) (ks : List K) → AllFine Fine xs → AllFine Fine ys → width xs ≡ width ys → Fine k x → Fine k y →
+      Describes Allows (joined o (joined_cell o) (xs ++ record { bits = k; cell = x } ∷ vs) (ys ++ record { bits = k; cell = y } ∷ ws)) ks → Allows k (o.join x y) (take k (drop (width xs) ks))
+  joined_only xs ys vs ws k x y ks fx fy w f g d =
+      let cl = joined_cell_laws o Fine nl ol jl in
+      let front = joined o (joined_cell o) xs ys in
+      let e = joined_there o Fine nl (joined_cell o) xs ys vs ws k x y fx fy w (nl.some_bits k x f) in
+      let b = joined_above o Fine (joined_cell o) nl ol jl cl xs ys (record { first = fx; second = fy }) w in
+      let a = describes_split Allows front (record { bits = k; cell = joined_cell o k x y } ∷ joined o (joined_cell o) vs ws) ks (subst (λ (m : List (Element C)). Describes Allows m ks) e d) in
+      let r : Allows k (joined_cell o k x y) (take k (drop (width xs) ks)) = subst (λ (n : ℕ). Allows k (joined_cell o k x y) (take k (drop n ks))) (b.wide ∙ sym w) a.1.0 in
+      ml.allows_leq k (joined_cell o k x y) (o.join x y) (take k (drop (width xs) ks)) (cl.merge_fine k x y f g) (jl.join_fine k x y f g) (cell_within o Fine ol jl k x y f g) r

@@ -162,6 +162,14 @@ pub fn join_of_cells<C: Cells>()
     ensures { (k : ℕ) (x y : C) → C.fine k x → C.fine k y → C.ops.leq (joined_cell C.ops k x y) (C.ops.join x y) ≡ true }
 {}
 
+/// So the joined map describes there only what the join of the two cells allows.
+pub fn join_describes_only<C: Cells, M: Concrete<C>>()
+    ensures { (world : M.World) (xs ys vs ws : List (Element C)) (k : ℕ) (x y : C) (ks : List M.Bit) → AllFine C.fine xs → AllFine C.fine ys →
+        width xs ≡ width ys → C.fine k x → C.fine k y →
+        Describes (M.allows world) (joined C.ops (joined_cell C.ops) (xs ++ record { bits = k; cell = x } ∷ vs) (ys ++ record { bits = k; cell = y } ∷ ws)) ks →
+        M.allows world k (C.ops.join x y) (take k (drop (width xs) ks)) }
+{}
+
 /// All contents of a map whose elements are each single are alike.
 pub fn single_maps_have_one_content<C: Cells, M: Concrete<C>>()
     ensures { (world : M.World) (single : ℕ → C → Bool) (m : List (Element C)) (js ks : List M.Bit) →
