@@ -1,5 +1,6 @@
 -- Maps that were built run by run.
-use Rattle.std.proofs.Common.{◌≡◌, ℕ, ◌+◌, ◌*◌, ◌<◌, ◌≤◌, ◌^◌, true, false, replicate, List, [], ◌++◌, sym, ap, ◌∙◌, subst, arith}
+use Rattle.std.proofs.Common.{◌≡◌, ℕ, ◌+◌, ◌*◌, ◌<◌, ◌≤◌, ◌^◌, true, false, replicate, List, [], ◌++◌, refl, sym, ap, ◌∙◌, subst, arith}
+use Rattle.std.proofs.lemmas.Nat.{pow_pos}
 use Rattle.cell_laws.specs.Elements.{Element, width, AllFine}
 use Rattle.cell_laws.specs.Cells.{Ops}
 use Rattle.cell_laws.specs.Laws.{FineLaws, OrderLaws, JoinLaws, MergeLaws, PartLaws}
@@ -207,3 +208,19 @@ module _ {C H : Type 0} (o : Ops C H) (Fine : ℕ → C → Type 0) (n : FineLaw
   slots_map bits slice runs m at k gap i c s z h b =
       built_map Fine runs (slots_weakened o m at k gap i (put o k c)) bits b (weakened_fine o Fine n l j q m (put o k c) k gap s.fine (fine_put o Fine q k c z) (width-put o k c) at i h)
       (s.wide ∙ sym (weakened_width o Fine n l j q m (put o k c) k gap s.fine (fine_put o Fine q k c z) (width-put o k c) at i h)) s.small
+
+-- ---- a map without bits
+
+no_bits : (C : Type 0) → width (elements {C = C} []) ≡ 0
+unfolding elements width
+no_bits C = refl
+
+module _ {C : Type 0} where
+  pub empty_map : (Fine : ℕ → C → Type 0) (runs : List (Run C)) (n : ℕ) → n ≡ 0 → runs ≡ [] → IsMap Fine n runs
+  empty_map Fine runs n z e =
+      subst (λ (m : ℕ). IsMap Fine m runs) (sym z) (subst (IsMap Fine 0) (sym e)
+      (record { some = tt; apart = tt; fine = subst (AllFine Fine) (sym (elements-none C)) tt; wide = sym (no_bits C); small = pow_pos 64 }))
+
+  pub empty_repeated : {H : Type 0} (o : Ops C H) (k : ℕ) (c : C) (runs : List (Run C)) (n : ℕ) → n ≡ 0 → runs ≡ [] → elements runs ≡ repeated o k n c
+  unfolding repeated
+  empty_repeated o k c runs n z e = ap elements e ∙ elements-none C ∙ ap (λ (m : ℕ). repeated o k m c) (sym z)

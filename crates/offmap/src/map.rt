@@ -264,9 +264,14 @@ impl<C: Cells> OffMap<C> {
 
     /// Bits that aren't written.
     pub fn uninit(alloc: Global, bits: u64) -> Mem<OffMap<C>>
-        requires { 0 < bits }
         ensures { IfOk result (λ m. m ≡ repeated C.ops 1 bits C.ops.uninit) }
     {
+        if bits == 0 {
+            return Ok(OffMap {
+                bits,
+                runs: Vec::new(alloc),
+            });
+        }
         let cell = C::uninit(alloc)?;
         OffMap::repeated(alloc, 1, bits, &cell)
     }
