@@ -1,6 +1,6 @@
 //! Single calls.
 
-use crate::sample::{get, holds, is_one, number, put};
+use crate::sample::{get, holds, is_one, is_pair, number, put};
 use avalue::{Cellv, Mem};
 use offmap::OffMap;
 use run_slots::offsets::Steps;
@@ -24,23 +24,14 @@ fn second_byte(alloc: Global) -> Mem<bool> {
     Ok(is_one(&byte) && holds(&byte, 8, 1))
 }
 
-/// Whether it is one range of bytes that hold both numbers and nothing else.
+/// Whether it is one range of bytes that hold 1 and 7 and nothing else.
 fn are_both(map: &OffMap<Cellv>, count: u64) -> bool {
     let ranges = map.ranges();
     if ranges.len() != 1 {
         return false;
     }
     let range = &ranges[0];
-    if range.bits != 8 || range.count != count {
-        return false;
-    }
-    if range.cell.uninit || range.cell.dead {
-        return false;
-    }
-    holds(&range.cell, 8, 1)
-        && holds(&range.cell, 8, 7)
-        && !holds(&range.cell, 8, 0)
-        && !holds(&range.cell, 8, 3)
+    range.bits == 8 && range.count == count && is_pair(&range.cell, 1, 7)
 }
 
 /// A store at one of two bytes.
@@ -72,7 +63,7 @@ fn weak_slots(alloc: Global) -> Mem<bool> {
         more: count - 1,
     };
     let all = map.load_steps(alloc, steps, 8)?;
-    Ok(are_both(&map, count) && holds(&all, 8, 1) && holds(&all, 8, 7) && !holds(&all, 8, 0))
+    Ok(are_both(&map, count) && is_pair(&all, 1, 7))
 }
 
 /// Numbers of 32 bits beside bytes, very many of both: which includes which, and their join.
@@ -89,6 +80,46 @@ fn nested(alloc: Global) -> Mem<bool> {
             && large.included(&small)
             && joined.ranges().len() == 1
             && other.ranges().len() == 1,
+    )
+}
+
+/// A store in one of very many numbers, and a store of what was there before.
+fn one_of_many(alloc: Global) -> Mem<bool> {
+    let map = OffMap::repeated(alloc, 32, 1_073_741_824, &number(0))?;
+    let changed = put(alloc, &map, 32_000, 32, 7)?;
+    let Some(cell) = get(alloc, &changed, 32_000, 32)? else {
+        return Ok(false);
+    };
+    let back = put(alloc, &changed, 32_000, 32, 0)?;
+    Ok(
+        map.ranges().len() == 1
+            && changed.ranges().len() == 3
+            && back.ranges().len() == 1
+            && is_one(&cell)
+            && holds(&cell, 32, 7),
+    )
+}
+
+/// The join of very many numbers with those of which one is another.
+fn one_is_joined(alloc: Global) -> Mem<bool> {
+    let map = OffMap::repeated(alloc, 32, 1_073_741_824, &number(0))?;
+    let changed = put(alloc, &map, 32_000, 32, 7)?;
+    if map.bits() != changed.bits() {
+        return Ok(false);
+    }
+    let joined = OffMap::join(alloc, &map, &changed)?;
+    if joined.bits() != map.bits() || joined.bits() != changed.bits() {
+        return Ok(false);
+    }
+    let Some(cell) = get(alloc, &joined, 32_000, 32)? else {
+        return Ok(false);
+    };
+    Ok(
+        joined.ranges().len() == 3
+            && is_pair(&cell, 0, 7)
+            && map.included(&joined)
+            && changed.included(&joined)
+            && !joined.included(&changed),
     )
 }
 
@@ -110,4 +141,14 @@ fn a_weak_store_to_many_slots_is_one_range(rt: HostRuntime) {
 #[test]
 fn many_elements_in_few_are_joined_at_once(rt: HostRuntime) {
     assert!(rt; nested(rt.alloc()) == Ok(true));
+}
+
+#[test]
+fn a_store_in_many_elements_leaves_three_ranges(rt: HostRuntime) {
+    assert!(rt; one_of_many(rt.alloc()) == Ok(true));
+}
+
+#[test]
+fn a_join_of_many_elements_changes_one(rt: HostRuntime) {
+    assert!(rt; one_is_joined(rt.alloc()) == Ok(true));
 }

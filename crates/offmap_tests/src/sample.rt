@@ -75,6 +75,23 @@ pub(crate) fn is_one(cell: &Cellv) -> bool {
     numbers.as_single().is_some()
 }
 
+/// Whether a cell has these two numbers alone, the lower one first, and no flag.
+pub(crate) fn is_pair(cell: &Cellv, low: i128, high: i128) -> bool {
+    if cell.uninit || cell.dead {
+        return false;
+    }
+    let Some(value) = &cell.value else {
+        return false;
+    };
+    let Some(numbers) = value.numbers() else {
+        return false;
+    };
+    let Some(list) = numbers.numbers() else {
+        return false;
+    };
+    value.addresses().is_empty() && list.len() == 2 && list[0] == low && list[1] == high
+}
+
 /// The map with the number there, or the map itself where that doesn't fit.
 pub(crate) fn put(
     alloc: Global,
