@@ -2,6 +2,7 @@
 ghost use Rattle.std.specs.Prelude.{◌≡◌, ℕ, ◌*◌, ◌<◌, ◌^◌, IfOk, []};
 ghost use Rattle.std.specs.Option.{option_copied};
 ghost use Rattle.std.specs.List.{AllByRecursion};
+ghost use Rattle.ptree.specs.Entries.{IsMap};
 ghost use Rattle.memory_maps.specs.Memories.{nothing, map_at, with_map as with_map_at, without as without_at, entered, left_by, HasBits, IsMemory};
 
 use crate::leaving::Leaving;
@@ -43,6 +44,32 @@ impl<C: Cells> Memory<C> {
             bases: PTree::new(),
             slots: PTree::new(),
         }
+    }
+
+    /// The memory of these maps of live objects and of held slots.
+    pub fn of(bases: PTree<OffMap<C>>, slots: PTree<OffMap<C>>) -> Memory<C>
+        requires { IsMemory C.fine (bases, slots) }
+        ensures { result ≡ (bases, slots) }
+    {
+        Memory { bases, slots }
+    }
+
+    /// The maps of the live objects by their numbers.
+    pub fn bases(&self) -> &PTree<OffMap<C>>
+        ensures value { result.now ≡ self.now.0 }
+        ensures map { IsMap self.now.0 }
+    {
+        let _found = self.bases.get(0);
+        &self.bases
+    }
+
+    /// The maps of the held slots by their numbers.
+    pub fn slots(&self) -> &PTree<OffMap<C>>
+        ensures value { result.now ≡ self.now.1 }
+        ensures map { IsMap self.now.1 }
+    {
+        let _found = self.slots.get(0);
+        &self.slots
     }
 
     /// What is true of every memory: the cells of its maps may stand in their elements, and the maps' bits can be counted.
