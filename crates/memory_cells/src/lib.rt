@@ -1,0 +1,7 @@
+//! Memories of cells of values: the deaths of objects in each layout.
+#![tactic(auto)]
+
+pub mod deaths;
+pub mod laws;
+
+pub use deaths::EachDeath;
