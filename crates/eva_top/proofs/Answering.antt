@@ -11,12 +11,13 @@ use Rattle.std.proofs.lemmas.Fmt.{decimal_digit}
 use Rattle.std.proofs.lemmas.List.{length-append}
 use lib.Chars.{codes}
 use Rattle.eva_io.specs.Outside.{SinkState, HeldWhereTold}
-use Rattle.first_language.specs.Language.{Spells}
+use Rattle.c_grammar.proofs.Exactly.{one_unit}
+use Rattle.first_units.specs.Language.{Spells, SpellsAnother}
 use Rattle.c_base.specs.declared.token.LexSort.{LexSort}
-use Rattle.eva_top.specs.declared.status.Refusal.TheVariants.{Form, Lex, Limit}
+use Rattle.eva_top.specs.declared.status.Refusal.TheVariants.{Form, Lex, Limit, Syntax}
 use Rattle.eva_top.specs.declared.status.Status.{Status}
 use Rattle.eva_top.specs.declared.status.Status.TheVariants.{Clean, Alarmed, Usage, Unread, Refused, Unwritten, Memory, TooLong}
-use Rattle.eva_top.specs.Answers.{Sunk, Call, IsRead, IsSource, IsForm, IsLex, IsBeyond, IsReportText, IsNote, IsUntouched, IsWritten, Answers, Puts, whole, failed, starved, PutsNote, memory_note, sunk, status_of, IsReportOrMemory, IsGood, most_bytes}
+use Rattle.eva_top.specs.Answers.{Sunk, Call, IsRead, IsSource, IsForm, IsOther, IsLex, IsBeyond, IsReportText, IsNote, IsUntouched, IsWritten, Answers, Puts, whole, failed, starved, PutsNote, memory_note, sunk, status_of, IsReportOrMemory, IsGood, most_bytes}
 
 pub untouched : (s : Sunk) (state : SinkState) → s ≡ sunk state state → IsUntouched s
 untouched s state e = rw e refl
@@ -81,6 +82,15 @@ same_bytes c bytes read good =
     let same : read.name ≡ good.name = same_name c read.name good.name read.word good.word in
     sym (held_bytes (c.told good.name) good.bytes (λ content. content ≡ bytes) good.held (rw same at read.held))
 
+-- a program's tokens are of no annotation and of no other unit
+no_other : (tokens : List Token) (p : Program) → IsOther tokens → Spells tokens p → ⊥
+no_other tokens p (inl annotated) s = let plain = s.plain in cc
+no_other tokens p (inr another) s =
+    let same = (one_unit tokens another.kids s.kids another.names s.names another.unit s.unit).0 in
+    let none = another.program in
+    let some = s.program in
+    let e = rw same at none in cc
+
 -- a good file gets its report, or memory was wanting
 pub good_reported : (c : Call) (status : Status) → Answers c status → IsGood c → IsReportOrMemory status
 good_reported c Clean a good = tt
@@ -95,7 +105,14 @@ good_reported c (Refused (Form at)) a good =
     let held = same_bytes c form.bytes form.read good in
     let source = rw (← held) at good.source in
     let tokens : source.tokens ≡ form.tokens = form.cut.all.only source.tokens source.cut.all.cut in
-    absurd (form.none good.program (rw tokens at source.spells))
+    absurd (no_other form.tokens good.program form.other (rw tokens at source.spells))
+good_reported c (Refused (Syntax at)) a good =
+    let syntax = a.1.0 in
+    let held = same_bytes c syntax.bytes syntax.read good in
+    let source = rw (← held) at good.source in
+    let tokens : source.tokens ≡ syntax.tokens = syntax.cut.all.only source.tokens source.cut.all.cut in
+    let spells = rw tokens at source.spells in
+    absurd (syntax.none spells.kids spells.names spells.unit spells.shallow)
 good_reported c (Refused (Lex sort at)) a good =
     let lex = a.1.0 in
     let held = same_bytes c lex.bytes lex.read good in

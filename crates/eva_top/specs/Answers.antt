@@ -10,11 +10,13 @@ use Rattle.eva_io.specs.Outside.{Rose, SinkState, HeldWhereTold, Appended, Appen
 use Rattle.c_lex.specs.declared.fault.LexFault.{LexFault}
 use Rattle.c_lex.specs.declared.fault.LexFault.TheVariants.{BadByte as BadByteFault, OpenComment as OpenCommentFault, OpenString as OpenStringFault, BadNumber as BadNumberFault}
 use Rattle.c_lex.specs.Lexing.{AreAnswered, IsRefusedFor, AreTooMany}
-use Rattle.first_language.specs.Language.{Spells}
-use Rattle.first_language.specs.Place.{IsPlaceIn}
+use Rattle.c_parse_expr.specs.Places.{IsRefusedAt}
+use Rattle.c_parse_unit.specs.Promises.{HasNoUnit}
+use Rattle.first_units.specs.Language.{has_annotation, Spells, SpellsAnother}
+use Rattle.first_units.specs.Place.{IsPlaceIn}
 use Rattle.c_base.specs.declared.token.LexSort.{LexSort}
 use Rattle.c_base.specs.declared.token.LexSort.TheVariants.{BadByte, OpenComment, OpenString, BadNumber}
-use Rattle.eva_top.specs.declared.status.Refusal.TheVariants.{Form, Lex, Limit}
+use Rattle.eva_top.specs.declared.status.Refusal.TheVariants.{Form, Lex, Limit, Syntax}
 use Rattle.eva_top.specs.declared.status.Status.{Status}
 use Rattle.eva_top.specs.declared.status.Status.TheVariants.{Clean, Alarmed, Usage, Unread, Refused, Unwritten, Memory, TooLong}
 use Rattle.eva_report.specs.Report.{line_end}
@@ -60,15 +62,30 @@ pub record IsSource (bytes : List ℕ) (p : Program) : Type 0 where
   pub cut : AreAnswered bytes tokens
   pub spells : Spells tokens p
 
--- the file is read and cut into tokens, at most 2,000,000, that spell no program; the place is that of one of them, and 1:1 where there are
--- none
+-- a token is of an annotation, or the tokens spell a unit that is no program of the language
+abbrev pub IsOther : List Token → Type 0
+IsOther tokens = (has_annotation tokens ≡ true) ⊎ SpellsAnother tokens
+
+-- the file is read and cut into tokens, at most 2,000,000, of an annotation or of another unit; the place is that of one of them, and 1:1 where
+-- there are none
 pub record IsForm (c : Call) (at : Span) : Type 0 where
   pub bytes : List ℕ
   pub tokens : List Token
   pub read : IsRead c bytes
   pub cut : AreAnswered bytes tokens
-  pub none : (p : Program) → Spells tokens p → ⊥
+  pub other : IsOther tokens
   pub place : IsPlaceIn tokens at
+
+-- the file is read and cut into tokens, at most 2,000,000, none of an annotation, that spell no unit of nesting at most 200; the place is that of
+-- one of them, and 1:1 where there are none
+pub record IsSyntax (c : Call) (at : Span) : Type 0 where
+  pub bytes : List ℕ
+  pub tokens : List Token
+  pub read : IsRead c bytes
+  pub cut : AreAnswered bytes tokens
+  pub plain : has_annotation tokens ≡ false
+  pub none : HasNoUnit 200 tokens
+  pub place : IsRefusedAt tokens 0 at
 
 abbrev pub fault_of : LexSort → Span → LexFault
 fault_of BadByte at = BadByteFault at
@@ -116,6 +133,9 @@ sort_name BadNumber = codes "bad number"
 unfoldable pub form_text : Span → List ℕ
 form_text at = codes "refused: form" ++ at_text at
 
+unfoldable pub syntax_text : Span → List ℕ
+syntax_text at = codes "refused: syntax" ++ at_text at
+
 unfoldable pub lex_text : LexSort → Span → List ℕ
 lex_text sort at = codes "refused: lex " ++ sort_name sort ++ at_text at
 
@@ -133,6 +153,7 @@ IsNote c Alarmed text = ⊥
 IsNote c Usage text = (length c.words ≢ 1) × (text ≡ usage_note)
 IsNote c Unread text = (name : List ℕ) × IsUnread c name × (text ≡ named_text (codes "unread: ") name)
 IsNote c (Refused (Form at)) text = IsForm c at × (text ≡ form_text at)
+IsNote c (Refused (Syntax at)) text = IsSyntax c at × (text ≡ syntax_text at)
 IsNote c (Refused (Lex sort at)) text = IsLex c sort at × (text ≡ lex_text sort at)
 IsNote c (Refused (Limit limit found)) text = IsBeyond c limit found × (text ≡ limit_text limit found)
 IsNote c Unwritten text = ⊥

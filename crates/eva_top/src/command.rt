@@ -1,22 +1,30 @@
-ghost use Rattle.std.specs.Prelude.{◌≡◌, ◌≤◌, ◌++◌, ◌∷◌, [], ℕ, List, length, map, string_bytes, ◌≢◌, IfOk, OnOk};
+ghost use Rattle.std.specs.Prelude.{◌≡◌, ◌≤◌, ◌++◌, ◌∷◌, [], ℕ, List, false, length, map, string_bytes, ◌≢◌, IfOk, OnOk};
 ghost use Rattle.first_program.specs.Meaning.{meaning_of};
 ghost use Rattle.first_program.specs.SourceViews.{program_of, IsShaped};
-ghost use Rattle.first_language.specs.Language.{Spells};
+ghost use Rattle.c_parse_expr.specs.Places.{IsRefusedAt};
+ghost use Rattle.c_parse_unit.specs.Promises.{HasNoUnit, IsUnitRead};
+ghost use Rattle.c_unit_tree.specs.Views.{unit_kids};
+ghost use Rattle.first_units.specs.Language.{has_annotation, Spells, SpellsAnother};
+ghost use Rattle.first_units.specs.Place.{IsPlaceIn};
 ghost use Rattle.c_lex.specs.Lexing.{AreAnswered, IsRefusal};
 ghost use Rattle.eva_report.specs.Report.{line_end};
 ghost use Rattle.eva_claim.specs.Claims.{IsReportOf};
-ghost use Rattle.eva_top.specs.Answers.{Puts, PutsNote, memory_note, usage_note, lex_text, form_text, at_text, limit_text, named_text, sort_name, status_of, IsRead, Answers, sunk, call_of, IsGood, IsReportOrMemory};
+ghost use Rattle.eva_top.specs.Answers.{Puts, PutsNote, memory_note, usage_note, lex_text, form_text, syntax_text, at_text, limit_text, named_text, sort_name, status_of, IsRead, Answers, sunk, call_of, IsGood, IsOther, IsReportOrMemory};
 
 use crate::status::{Refusal, Status};
 use c_base::name::Name;
 use c_base::number::Span;
 use c_base::token::{LexSort, Token};
 use c_lex::LexFault;
+use c_parse_expr::ParseFault;
+use c_parse_unit::parse_unit;
+use c_unit_tree::unit::Unit;
 use eva_io::sink::{PutFault, Sink, write_whole};
 use eva_io::store::{LoadFault, Store};
 use eva_report::{push_number, push_text};
 use first_program::tree::Program;
 use first_report::{Printed, print_report};
+use first_units::places::annotation_in;
 use std::alloc::{AllocError, Global};
 use std::thread::Threads;
 
@@ -125,6 +133,16 @@ fn make_form_text(alloc: Global, at: Span) -> Result<Vec<u8>, AllocError>
     Ok(text)
 }
 
+#[tactic(auto, unfolding(crate::specs::Answers::syntax_text))]
+fn make_syntax_text(alloc: Global, at: Span) -> Result<Vec<u8>, AllocError>
+    ensures { IfOk result (λ text. text.items ≡ syntax_text at) }
+{
+    let mut text = Vec::new(alloc);
+    push_text(&mut text, b"refused: syntax")?;
+    push_place(alloc, &mut text, at)?;
+    Ok(text)
+}
+
 #[tactic(auto, unfolding(crate::specs::Answers::limit_text))]
 fn make_limit_text(alloc: Global, limit: u32, found: u64) -> Result<Vec<u8>, AllocError>
     ensures { IfOk result (λ text. text.items ≡ limit_text limit found) }
@@ -171,21 +189,41 @@ fn refuse_bytes<N: Sink>(alloc: Global, fault: LexFault, notes: &mut N) -> Statu
     }
 }
 
-// The answer for tokens that spell no program.
-fn refuse_tokens<N: Sink>(alloc: Global, tokens: &[Token], notes: &mut N) -> Status
-    requires { length tokens.now ≤ 2000000 }
-    ensures { (c : _) (bytes : List ℕ) → IsRead c bytes → AreAnswered bytes tokens.now
-        → ((p : _) → Spells tokens.now p → ⊥)
+// The answer for tokens of an annotation, or of another unit than a program of the language.
+fn refuse_form<N: Sink>(alloc: Global, at: Span, notes: &mut N) -> Status
+    ensures { (c : _) (bytes : List ℕ) (tokens : List Token) → IsRead c bytes → AreAnswered bytes tokens
+        → IsOther tokens → IsPlaceIn tokens at
         → c.out.after.written ≡ c.out.before.written
         → c.notes ≡ sunk (N.state notes.old) (N.state notes.new)
         → Answers c result }
 {
-    match first_language::refused_at(alloc, tokens) {
+    let text = make_form_text(alloc, at);
+    note(notes, Status::Refused(Refusal::Form { at }), text)
+}
+
+// The answer for tokens that spell no unit.
+fn refuse_syntax<N: Sink>(alloc: Global, at: Span, notes: &mut N) -> Status
+    ensures { (c : _) (bytes : List ℕ) (tokens : List Token) → IsRead c bytes → AreAnswered bytes tokens
+        → has_annotation tokens ≡ false → HasNoUnit 200 tokens → IsRefusedAt tokens 0 at
+        → c.out.after.written ≡ c.out.before.written
+        → c.notes ≡ sunk (N.state notes.old) (N.state notes.new)
+        → Answers c result }
+{
+    let text = make_syntax_text(alloc, at);
+    note(notes, Status::Refused(Refusal::Syntax { at }), text)
+}
+
+// The answer for a unit that is no program of the language.
+fn refuse_unit<N: Sink>(alloc: Global, tokens: &[Token], unit: &Unit, notes: &mut N) -> Status
+    ensures { (c : _) (bytes : List ℕ) → IsRead c bytes → AreAnswered bytes tokens.now
+        → SpellsAnother tokens.now
+        → c.out.after.written ≡ c.out.before.written
+        → c.notes ≡ sunk (N.state notes.old) (N.state notes.new)
+        → Answers c result }
+{
+    match first_units::places::refused_at(alloc, unit, tokens) {
         Err(AllocError) => note_memory(notes),
-        Ok(at) => {
-            let text = make_form_text(alloc, at);
-            note(notes, Status::Refused(Refusal::Form { at }), text)
-        }
+        Ok(at) => refuse_form(alloc, at, notes),
     }
 }
 
@@ -199,6 +237,70 @@ fn make_report(alloc: Global, program: &Program) -> Result<Printed, AllocError>
     Ok(printed)
 }
 
+// The answer for a program.
+fn report_program<K: Sink, N: Sink>(
+    alloc: Global,
+    program: &Program,
+    out: &mut K,
+    notes: &mut N,
+) -> Status
+    requires { IsShaped (program_of program.now) }
+    ensures { (c : _) (bytes : List ℕ) (tokens : List Token) → IsRead c bytes → AreAnswered bytes tokens
+        → Spells tokens (program_of program.now)
+        → c.out ≡ sunk (K.state out.old) (K.state out.new)
+        → c.notes ≡ sunk (N.state notes.old) (N.state notes.new)
+        → Answers c result }
+{
+    match make_report(alloc, program) {
+        Err(AllocError) => note_memory(notes),
+        Ok(printed) => put_text(out, printed.text.as_slice(), report_status(printed.alarmed)),
+    }
+}
+
+// The answer for a unit.
+fn analyse_unit<K: Sink, N: Sink>(
+    alloc: Global,
+    tokens: &[Token],
+    unit: Unit,
+    out: &mut K,
+    notes: &mut N,
+) -> Status
+    ensures { (c : _) (bytes : List ℕ) → IsRead c bytes → AreAnswered bytes tokens.now
+        → has_annotation tokens.now ≡ false → IsUnitRead 200 (unit_kids unit) tokens.now
+        → c.out ≡ sunk (K.state out.old) (K.state out.new)
+        → c.notes ≡ sunk (N.state notes.old) (N.state notes.new)
+        → Answers c result }
+{
+    match first_units::program_in(alloc, &unit) {
+        Err(AllocError) => note_memory(notes),
+        Ok(None) => refuse_unit(alloc, tokens, &unit, notes),
+        Ok(Some(program)) => {
+            drop(unit);
+            report_program(alloc, &program, out, notes)
+        }
+    }
+}
+
+// The answer for tokens of which none is of an annotation.
+fn analyse_plain<K: Sink, N: Sink>(
+    alloc: Global,
+    tokens: &[Token],
+    out: &mut K,
+    notes: &mut N,
+) -> Status
+    ensures { (c : _) (bytes : List ℕ) → IsRead c bytes → AreAnswered bytes tokens.now
+        → has_annotation tokens.now ≡ false
+        → c.out ≡ sunk (K.state out.old) (K.state out.new)
+        → c.notes ≡ sunk (N.state notes.old) (N.state notes.new)
+        → Answers c result }
+{
+    match parse_unit(alloc, tokens) {
+        Err(ParseFault::Memory) => note_memory(notes),
+        Err(ParseFault::Syntax { at }) => refuse_syntax(alloc, at, notes),
+        Ok(unit) => analyse_unit(alloc, tokens, unit, out, notes),
+    }
+}
+
 // The answer for the tokens of a file.
 fn analyse_tokens<K: Sink, N: Sink>(
     alloc: Global,
@@ -206,19 +308,14 @@ fn analyse_tokens<K: Sink, N: Sink>(
     out: &mut K,
     notes: &mut N,
 ) -> Status
-    requires { length tokens.now ≤ 2000000 }
     ensures { (c : _) (bytes : List ℕ) → IsRead c bytes → AreAnswered bytes tokens.now
         → c.out ≡ sunk (K.state out.old) (K.state out.new)
         → c.notes ≡ sunk (N.state notes.old) (N.state notes.new)
         → Answers c result }
 {
-    match first_language::parse(alloc, tokens) {
-        Err(AllocError) => note_memory(notes),
-        Ok(None) => refuse_tokens(alloc, tokens, notes),
-        Ok(Some(program)) => match make_report(alloc, &program) {
-            Err(AllocError) => note_memory(notes),
-            Ok(printed) => put_text(out, printed.text.as_slice(), report_status(printed.alarmed)),
-        },
+    match annotation_in(tokens) {
+        Some(at) => refuse_form(alloc, at, notes),
+        None => analyse_plain(alloc, tokens, out, notes),
     }
 }
 

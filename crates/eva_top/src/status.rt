@@ -7,10 +7,12 @@ use c_base::token::LexSort;
 /// Why a source is refused.
 #[derive(Clone, Copy, Debug, PartialEq, Eq)]
 pub enum Refusal {
-    /// The file is not in the language that is read so far. The place is a hint and only lies in the file.
+    /// The file has an annotation, or is a unit of C that is not in the language that is analysed so far. The place is a hint and only lies in the file.
     Form { at: Span },
     /// The file can't be cut into tokens; the place is that of its first wrong piece.
     Lex { fault: LexSort, at: Span },
+    /// The tokens spell no unit that nests at most 200 deep. The place is a hint and only lies in the file.
+    Syntax { at: Span },
     /// More than a limit allows: limit 1 is 2,000,000 tokens.
     Limit { limit: u32, found: u64 },
 }

@@ -147,7 +147,7 @@ fn statements_are_reported(rt: HostRuntime) -> Result<(), Fail> {
 #[test]
 fn sources_are_refused(rt: HostRuntime) -> Result<(), Fail> {
     let alloc = rt.alloc();
-    let cases: [(&[u8], &[u8]); 4] = [
+    let cases: [(&[u8], &[u8]); 7] = [
         (
             b"int main(void){return 08;}",
             b"refused: lex bad number at 1:23\n",
@@ -158,7 +158,16 @@ fn sources_are_refused(rt: HostRuntime) -> Result<(), Fail> {
         ),
         (
             b"int main(void){int *p; return 0;}",
-            b"refused: form at 1:20\n",
+            b"refused: form at 1:16\n",
+        ),
+        (
+            b"typedef int T; int main(void){T (T); return 0;}",
+            b"refused: form at 1:1\n",
+        ),
+        (b"int main(void){return 0;", b"refused: syntax at 1:24\n"),
+        (
+            b"int main(void){return /*@ assert \\true; */",
+            b"refused: form at 1:23\n",
         ),
         (b"", b"refused: form at 1:1\n"),
     ];

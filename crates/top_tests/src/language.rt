@@ -1,9 +1,12 @@
-//! The small language, read from tokens.
+//! The small language, read from the tokens of units.
 use c_base::name::Name;
 use c_base::number::Span;
 use c_base::token::{IntegerConstant, Keyword, Length, Punctuator, Radix, Token, Word};
-use first_language::{parse, refused_at};
+use c_parse_expr::ParseFault;
+use c_parse_unit::parse_unit;
 use first_program::tree::{Program, Sign, Stmt, Sum};
+use first_units::places::refused_at;
+use first_units::program_in;
 use std::alloc::{AllocError, Global};
 use std::test::Fail;
 
@@ -75,6 +78,15 @@ fn add(alloc: Global, tokens: &mut Vec<Token>, text: &str) -> Result<(), AllocEr
     Ok(())
 }
 
+// The program that tokens spell.
+fn parse(alloc: Global, tokens: &[Token]) -> Result<Option<Program>, AllocError> {
+    match parse_unit(alloc, tokens) {
+        Err(ParseFault::Memory) => Err(AllocError),
+        Err(ParseFault::Syntax { at: _ }) => Ok(None),
+        Ok(unit) => program_in(alloc, &unit),
+    }
+}
+
 const HEADER: &str = "int main ( void ) {";
 
 // The program of a body.
@@ -82,9 +94,6 @@ fn read(alloc: Global, body: &str) -> Result<Option<Program>, AllocError> {
     let mut tokens = Vec::new(alloc);
     add(alloc, &mut tokens, HEADER)?;
     add(alloc, &mut tokens, body)?;
-    if tokens.len() > 1_000_000 {
-        return Ok(None);
-    }
     parse(alloc, tokens.as_slice())
 }
 
@@ -108,9 +117,6 @@ fn read_many(
         add(alloc, &mut tokens, after)?;
     }
     add(alloc, &mut tokens, "}")?;
-    if tokens.len() > 2_000_000 {
-        return Ok(None);
-    }
     parse(alloc, tokens.as_slice())
 }
 
@@ -149,9 +155,6 @@ fn read_enclosed(alloc: Global, pairs: u32) -> Result<Option<Program>, AllocErro
         add(alloc, &mut tokens, ")")?;
     }
     add(alloc, &mut tokens, "; }")?;
-    if tokens.len() > 1_000_000 {
-        return Ok(None);
-    }
     parse(alloc, tokens.as_slice())
 }
 
@@ -184,8 +187,11 @@ fn parentheses_stand_round_parts(rt: HostRuntime) -> Result<(), Fail> {
 fn what_is_no_program_is_refused(rt: HostRuntime) -> Result<(), Fail> {
     let alloc = rt.alloc();
     for body in [
-        "return 0 ; } ;",
+        "return 0 ; } int x ;",
+        "return 0 ; } int f ( void ) { }",
         "return 0 ;",
+        "return ; }",
+        "; }",
         "int x ; int x ; return 0 ; }",
         "x = 1 ; }",
         "return 1u ; }",
@@ -226,14 +232,18 @@ fn long_sums_and_ladders_are_read(rt: HostRuntime) -> Result<(), Fail> {
     Ok(())
 }
 
-// The column of the place at which the words of a text stop being the front of a program.
+// The column of the place at which the words of a text are no program; 0 where they are one.
 fn refused_column(alloc: Global, text: &str) -> Result<u32, AllocError> {
     let mut tokens = Vec::new(alloc);
     add(alloc, &mut tokens, text)?;
-    if tokens.len() > 1_000_000 {
-        return Ok(0);
+    match parse_unit(alloc, tokens.as_slice()) {
+        Err(ParseFault::Memory) => Err(AllocError),
+        Err(ParseFault::Syntax { at }) => Ok(at.col),
+        Ok(unit) => match program_in(alloc, &unit)? {
+            Some(_) => Ok(0),
+            None => Ok(refused_at(alloc, &unit, tokens.as_slice())?.col),
+        },
     }
-    Ok(refused_at(alloc, tokens.as_slice())?.col)
 }
 
 #[test]
@@ -241,12 +251,14 @@ fn refusals_have_places(rt: HostRuntime) -> Result<(), Fail> {
     let alloc = rt.alloc();
     for (text, column) in [
         ("", 1),
-        ("void main", 1),
-        ("int main ( ) {", 4),
-        ("int main ( void ) { int x = 1 ; }", 9),
-        ("int main ( void ) { int x ; int x ; }", 11),
-        ("int main ( void ) { return 0 ; } ;", 11),
-        ("int main ( void ) { return 0 ;", 7),
+        ("void main", 2),
+        ("int main ( ) { }", 1),
+        ("int x ; int main ( void ) { }", 1),
+        ("int main ( void ) { } int x ;", 8),
+        ("int main ( void ) { int x = 1 ; }", 7),
+        ("int main ( void ) { int x ; int x ; }", 10),
+        ("; int main ( void ) { return 0 ; } ; ;", 0),
+        ("int main ( void ) { return 0 ;", 9),
         ("int main ( void ) { int x ; x = 1 ; return 0 < 1 ; }", 14),
     ] {
         assert!(rt; refused_column(alloc, text)? == column, "{text}");

@@ -1,4 +1,4 @@
-use Rattle.std.proofs.Common.{refl}
+use Rattle.std.proofs.Common.{rules, refl}
 use Rattle.eva_top.specs.declared.status.Status.TheVariants.{Unread, TooLong, Memory}
 use Rattle.eva_top.proofs.Answering.{untouched, note_put, noted}
 use Rattle.eva_top.proofs.command.analyse_file.Goals as goal
@@ -18,3 +18,8 @@ returns-in-Err-TooLong-clause-answer g c = λ call words told before after out n
 pub returns-in-Err-Memory-clause-answer : goal.returns-in-Err-Memory-clause-answer
 returns-in-Err-Memory-clause-answer g c = λ call words told before after out notes.
     noted call _ _ _ Memory c.note_memory.result notes refl (untouched call.out _ out) c.note_memory.ensures
+
+pub returns-in-Ok-clause-answer : goal.returns-in-Ok-clause-answer
+returns-in-Ok-clause-answer g c = λ call words told before after out notes.
+    c.analyse_bytes.ensures call
+    (record { name = c.args.name.now; word = words; held = rw (told, c.as_slice.ensures.value) c.in-Ok.ensures.content; small = search rules }) out notes

@@ -1,0 +1,4 @@
+pub mod Language
+pub mod Place
+pub mod Sums
+pub mod Views
