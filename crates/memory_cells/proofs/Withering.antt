@@ -1,5 +1,5 @@
 -- Objects that die one after another, and those that die together.
-use Rattle.std.proofs.Common.{◌≡◌, ℕ, Bool, true, false, List, [], ◌∷◌, length, map, refl, sym, ap, ◌∙◌, subst, arith}
+use Rattle.std.proofs.Common.{◌≡◌, ℕ, Bool, true, false, List, [], ◌∷◌, map, refl, sym, ap, ◌∙◌, subst, arith}
 use Rattle.std.specs.Prelude.{nat_eq, ◌==◌, ◌||◌, cond, if◌then◌else◌, Option, None, Some}
 use Rattle.std.specs.List.{list_any}
 use Rattle.std.specs.FinSet.{contains}
@@ -9,7 +9,6 @@ use Rattle.c_base.specs.declared.number.BaseId.{BaseId}
 use Rattle.c_memory.specs.Layouts.{Layout}
 use Rattle.c_memory.specs.Values.{Cell, Uninit, Dead, Bit, wither}
 use Rattle.c_memory.specs.Memories.{Memory, died, withered}
-use Rattle.cell_laws.specs.Meaning.{Describes}
 use Rattle.avalue_base.specs.Values.{Cellv}
 use Rattle.avalue_base.specs.Ops.{ops, Fine}
 use Rattle.avalue_base.specs.Deaths.{forgotten}

@@ -1,5 +1,4 @@
 //! Cells when one of all bases has died.
-ghost use Rattle.std.specs.Prelude.{◌≡◌, IfOk};
 ghost use Rattle.avalue_base.specs.Deaths.{forgotten};
 ghost use Rattle.cell_contents.proofs.Deaths.{left_laws};
 

@@ -1,4 +1,4 @@
-//! Memories of cells of values: the deaths of objects in each layout.
+//! Memories of cells of values: births and deaths of objects in each layout.
 #![tactic(auto)]
 
 pub mod deaths;
