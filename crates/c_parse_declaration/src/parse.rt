@@ -10,12 +10,11 @@ ghost use Rattle.c_parse_expr.specs.Places.{IsRefusedAt};
 ghost use Rattle.c_parse_expr.specs.declared.fault.ParseFault.TheVariants as fault;
 ghost use Rattle.c_parse_initialisers.specs.Reads.{ReadsSort};
 
-use crate::places::refused_at;
 use c_base::token::Token;
 use c_parse_base::names::TypeNames;
 use c_parse_decl::declarations::declaration_at;
 use c_parse_expr::fault::ParseFault;
-use c_parse_expr::parse::MOST_NESTING;
+use c_parse_expr::parse::{MOST_NESTING, refused_at};
 use c_unit_tree::declaration::Declaration;
 use std::alloc::{AllocError, Global};
 

@@ -71,9 +71,9 @@ fn place_of(tokens: &[Token], number: usize) -> Span
     tokens[number].span
 }
 
-// The place of the furthest token that was refused, of which so many were left, or of the last of the list; the first place of a file
-// where there is no token.
-fn refused_at(tokens: &[Token], start: usize, unread: usize) -> Span
+/// The place of the furthest token that was refused, of which so many were left, or of the last of the list; the first place of a file
+/// where there is no token.
+pub fn refused_at(tokens: &[Token], start: usize, unread: usize) -> Span
     requires { start ≤ length tokens.now }
     ensures { IsRefusedAt tokens.now start result }
 {

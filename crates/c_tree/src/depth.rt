@@ -8,8 +8,8 @@ use crate::tree::{
     TypeName,
 };
 
-// A node above what is so deep.
-fn above(deepest: usize) -> usize
+/// A node above what is so deep.
+pub fn above(deepest: usize) -> usize
     ensures { deepest < 2 ^ 62 → result ≡ suc deepest }
 {
     deepest.saturating_add(1)
@@ -85,8 +85,9 @@ fn operands(all: &[Operand]) -> usize
     deepest
 }
 
+/// How deep an expression is.
 #[cycle(nesting)]
-fn expr(tree: &Expr) -> usize
+pub fn expr(tree: &Expr) -> usize
     ensures { nest (tree_of tree.now) < 2 ^ 62 → result ≡ nest (tree_of tree.now) }
 {
     match tree {
@@ -219,8 +220,9 @@ fn core_nodes(tree: &Core) -> usize
     }
 }
 
+/// How deep a declarator is.
 #[cycle(nesting)]
-fn declarator(tree: &Declarator) -> usize
+pub fn declarator(tree: &Declarator) -> usize
     ensures { nest (declarator_tree tree.now) < 2 ^ 62 → result ≡ nest (declarator_tree tree.now) }
 {
     let behind = core_nodes(&tree.core).saturating_add(suffixes(tree.suffixes.as_slice()));
@@ -329,8 +331,9 @@ fn specifier(tree: &Specifier) -> usize
     }
 }
 
+/// How deep the deepest of some specifiers is.
 #[cycle(nesting)]
-fn specifiers(all: &[Specifier]) -> usize
+pub fn specifiers(all: &[Specifier]) -> usize
     ensures { nest_all (specifiers_of all.now) < 2 ^ 62 → result ≡ nest_all (specifiers_of all.now) }
 {
     let mut deepest: usize = 0;

@@ -2,9 +2,9 @@
 //! spells, and how deep it is. `specs/` says which trees are well formed.
 #![tactic(auto)]
 
-mod depth;
+pub mod depth;
 pub mod operator;
-mod plain_words;
+pub mod plain_words;
 pub mod tree;
-mod type_words;
-mod words;
+pub mod type_words;
+pub mod words;

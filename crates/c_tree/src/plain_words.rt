@@ -13,13 +13,15 @@ use c_base::token::{Keyword, Punctuator, Word};
 use sqlite_items::Items;
 use std::alloc::{AllocError, Global};
 
-pub(crate) fn mark(out: &mut Items<Word>, punctuator: Punctuator) -> Result<(), AllocError>
+/// Adds a punctuator.
+pub fn mark(out: &mut Items<Word>, punctuator: Punctuator) -> Result<(), AllocError>
     ensures { OnOk result (out.new ≡ out.old ++ word.Punctuator punctuator ∷ []) }
 {
     out.push(Word::Punctuator(punctuator))
 }
 
-pub(crate) fn keyword(out: &mut Items<Word>, keyword: Keyword) -> Result<(), AllocError>
+/// Adds a keyword.
+pub fn keyword(out: &mut Items<Word>, keyword: Keyword) -> Result<(), AllocError>
     ensures { OnOk result (out.new ≡ out.old ++ word.Keyword keyword ∷ []) }
 {
     out.push(Word::Keyword(keyword))
@@ -37,21 +39,15 @@ pub(crate) fn type_operator(out: &mut Items<Word>, operator: TypeOperator) -> Re
     out.push(operator.word())
 }
 
-pub(crate) fn identifier(
-    alloc: Global,
-    out: &mut Items<Word>,
-    name: &Name,
-) -> Result<(), AllocError>
+/// Adds a name.
+pub fn identifier(alloc: Global, out: &mut Items<Word>, name: &Name) -> Result<(), AllocError>
     ensures { OnOk result (out.new ≡ out.old ++ word.Identifier name.now ∷ []) }
 {
     out.push(Word::Identifier(name.duplicate(alloc)?))
 }
 
-pub(crate) fn literals(
-    alloc: Global,
-    out: &mut Items<Word>,
-    all: &[Items<u8>],
-) -> Result<(), AllocError>
+/// Adds string literals.
+pub fn literals(alloc: Global, out: &mut Items<Word>, all: &[Items<u8>]) -> Result<(), AllocError>
     ensures { OnOk result (out.new ≡ out.old ++ words_of (pieces_of_literals all.now)) }
 {
     for literal in all {
@@ -98,11 +94,8 @@ fn kept_words(alloc: Global, out: &mut Items<Word>, all: &[Word]) -> Result<(), 
     Ok(())
 }
 
-pub(crate) fn attribute(
-    alloc: Global,
-    out: &mut Items<Word>,
-    kept: &Attribute,
-) -> Result<(), AllocError>
+/// Adds `__attribute__((..))`.
+pub fn attribute(alloc: Global, out: &mut Items<Word>, kept: &Attribute) -> Result<(), AllocError>
     ensures { OnOk result (out.new ≡ out.old ++ words_of (pieces_of_attribute kept.now)) }
 {
     keyword(out, Keyword::Attribute)?;
@@ -113,11 +106,8 @@ pub(crate) fn attribute(
     mark(out, Punctuator::CloseParenthesis)
 }
 
-pub(crate) fn attributes(
-    alloc: Global,
-    out: &mut Items<Word>,
-    all: &[Attribute],
-) -> Result<(), AllocError>
+/// Adds attributes.
+pub fn attributes(alloc: Global, out: &mut Items<Word>, all: &[Attribute]) -> Result<(), AllocError>
     ensures { OnOk result (out.new ≡ out.old ++ words_of (pieces_of_attributes all.now)) }
 {
     for each in all {

@@ -130,8 +130,9 @@ fn core(alloc: Global, out: &mut Items<Word>, tree: &Core) -> Result<(), AllocEr
     }
 }
 
+/// Adds the words of a declarator.
 #[cycle(spelling)]
-fn declarator(alloc: Global, out: &mut Items<Word>, tree: &Declarator) -> Result<(), AllocError>
+pub fn declarator(alloc: Global, out: &mut Items<Word>, tree: &Declarator) -> Result<(), AllocError>
     ensures { OnOk result (out.new ≡ out.old ++ words_of (pieces (declarator_tree tree.now))) }
 {
     pointers(alloc, out, tree.pointers.as_slice())?;
@@ -317,8 +318,9 @@ fn specifier(alloc: Global, out: &mut Items<Word>, tree: &Specifier) -> Result<(
     }
 }
 
+/// Adds the words of specifiers.
 #[cycle(spelling)]
-fn specifiers(alloc: Global, out: &mut Items<Word>, all: &[Specifier]) -> Result<(), AllocError>
+pub fn specifiers(alloc: Global, out: &mut Items<Word>, all: &[Specifier]) -> Result<(), AllocError>
     ensures { OnOk result (out.new ≡ out.old ++ words_of (pieces_of_all (specifiers_of all.now))) }
 {
     for each in all {

@@ -79,8 +79,9 @@ fn operands(alloc: Global, out: &mut Items<Word>, all: &[Operand]) -> Result<(),
     Ok(())
 }
 
+/// Adds the words of an expression.
 #[cycle(spelling)]
-pub(crate) fn expr(alloc: Global, out: &mut Items<Word>, tree: &Expr) -> Result<(), AllocError>
+pub fn expr(alloc: Global, out: &mut Items<Word>, tree: &Expr) -> Result<(), AllocError>
     ensures { OnOk result (out.new ≡ out.old ++ words_of (pieces (tree_of tree.now))) }
 {
     match tree {
