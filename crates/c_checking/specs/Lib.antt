@@ -1,0 +1,12 @@
+pub mod Faults
+pub mod Qualified
+pub mod Constants
+pub mod Scopes
+pub mod Operands
+pub mod Operators
+pub mod Parts
+pub mod Specifiers
+pub mod Bodies
+pub mod Checking
+pub mod Profile
+pub mod Checks

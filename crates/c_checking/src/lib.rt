@@ -1,0 +1,2 @@
+//! When expressions and type names of C are well typed, and what they are then; in `specs/`.
+#![tactic(auto)]
