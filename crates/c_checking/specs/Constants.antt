@@ -7,7 +7,8 @@ use Rattle.c_base.specs.declared.kind.Kind.{Kind}
 use Rattle.c_base.specs.declared.operators.BinOp.{BinOp}
 use Rattle.c_base.specs.declared.operators.UnOp.{UnOp}
 use Rattle.c_base.specs.Operators.{applied, applied_unary, converted, is_zero, truth_number}
-use Rattle.c_types.specs.Types.{Integer}
+use Rattle.c_base.specs.Integers.{fits_kind}
+use Rattle.c_types.specs.Types.{CType, Integer}
 use Rattle.c_typed_expr.specs.Trees.{Expr, Number, Binary, Unary, Convert, Logic, Conditional}
 
 -- Not a constant expression; one with its number; or one that meets an undefined step, as no constant expression may (C11 6.6p4).
@@ -53,13 +54,26 @@ picked Varying b c = Varying
 picked Undefined b c = unless_varying b (unless_varying c Undefined)
 picked (Constant n) b c = unless_varying b (unless_varying c (cond (is_zero n) c b))
 
+-- a number that its type has
+abbrev pub number_known : Machine → IntKind → ℤ → Known
+number_known machine kind n = cond (fits_kind kind machine n) (Constant n) Varying
+
+-- a conversion to an integer type
+abbrev pub converted_known : Machine → CType → Known → Known
+converted_known machine (Integer kind) k = on_one (λ n. Constant (converted kind machine n)) k
+converted_known machine _ k = Varying
+
+abbrev pub picked_known : CType → Known → Known → Known → Known
+picked_known (Integer kind) a b c = picked a b c
+picked_known _ a b c = Varying
+
 abbrev pub known : Machine → Expr → Known
-known machine (Number kind n) = Constant n
+known machine (Number kind n) = number_known machine kind n
 known machine (Unary op kind e) = on_one (λ n. known_from (applied_unary op kind machine n)) (known machine e)
 known machine (Binary op kind a b) = on_two (λ m n. known_from (applied op kind machine m n)) (known machine a) (known machine b)
-known machine (Convert (Integer kind) e) = on_one (λ n. Constant (converted kind machine n)) (known machine e)
+known machine (Convert t e) = converted_known machine t (known machine e)
 known machine (Logic is_and a b) = decided is_and (known machine a) (known machine b)
-known machine (Conditional (Integer kind) a b c) = picked (known machine a) (known machine b) (known machine c)
+known machine (Conditional t a b c) = picked_known t (known machine a) (known machine b) (known machine c)
 known machine _ = Varying
 
 -- a constant expression of value 0
