@@ -1,3 +1,3 @@
 mod Gathering
-mod Rows
+pub mod Rows
 mod Stretches

@@ -6,7 +6,7 @@ use Rattle.cell_laws.specs.Elements.{Element, width, AllFine}
 use Rattle.cell_laws.specs.Cells.{Ops}
 use Rattle.cell_laws.specs.Access.{repeated}
 use Rattle.run_orders.specs.Deaths.{left_all}
-use Rattle.ptree.specs.Entries.{get, set, remove, merged}
+use Rattle.ptree.specs.Entries.{AllKeys, get, set, remove, merged}
 use Rattle.avalue.specs.declared.row.Target.{Target}
 use Rattle.avalue.specs.declared.row.Target.TheVariants.{Base, Slot}
 
@@ -42,8 +42,12 @@ pub record IsObject {C : Type 0} (Fine : ℕ → C → Type 0) (x : List (Elemen
 abbrev pub AreObjects : {C : Type 0} → (ℕ → C → Type 0) → Maps C → Type 0
 AreObjects {C = C} Fine maps = AllByRecursion (λ (e : ℕ × List (Element C)). IsObject Fine e.1) maps
 
+-- numbers of objects and slots have 32 bits
+abbrev pub HaveNumbers : {C : Type 0} → Maps C → Type 0
+HaveNumbers maps = AllKeys (λ k. k < 2 ^ 32) maps
+
 abbrev pub IsMemory : {C : Type 0} → (ℕ → C → Type 0) → MapsOf C → Type 0
-IsMemory Fine m = AreObjects Fine m.0 × AreObjects Fine m.1
+IsMemory Fine m = AreObjects Fine m.0 × AreObjects Fine m.1 × HaveNumbers m.0 × HaveNumbers m.1
 
 -- the object has bytes, and its bits can be counted
 pub record HasBits (size_of : ℕ → ℕ) (b : BaseId) : Type 0 where

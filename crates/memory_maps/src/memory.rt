@@ -72,7 +72,7 @@ impl<C: Cells> Memory<C> {
         &self.slots
     }
 
-    /// What is true of every memory: the cells of its maps may stand in their elements, and the maps' bits can be counted.
+    /// What is true of every memory: the cells of its maps may stand in their elements, the maps' bits can be counted, and their numbers have 32 bits.
     pub fn facts(&self)
         ensures { IsMemory C.fine self.now }
     {

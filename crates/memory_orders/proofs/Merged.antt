@@ -9,7 +9,8 @@ use Rattle.cell_laws.specs.Laws.{FineLaws, OrderLaws, JoinLaws, MergeLaws}
 use Rattle.cell_laws.specs.Join.{joined}
 use Rattle.cell_laws.proofs.Joins.{joined_above}
 use Rattle.ptree.specs.Entries.{get, remove, set_some, merged, merged_rest}
-use Rattle.memory_maps.specs.Memories.{Maps, MapsOf, IsObject, AreObjects}
+use Rattle.ptree.proofs.Merges.{AllKeys-merged}
+use Rattle.memory_maps.specs.Memories.{Maps, MapsOf, IsObject, AreObjects, HaveNumbers}
 use Rattle.memory_maps.proofs.Objects.{set_objects, remove_objects}
 use Rattle.memory_orders.specs.Merging.{merged_map, merged_maps}
 
@@ -67,3 +68,7 @@ module _ {C H : Type 0} (o : Ops C H) (Fine : ℕ → C → Type 0) (nl : FineLa
   pub made_objects : (maps others first second made : Maps C) → first ≡ maps → second ≡ others → made ≡ merged_maps o merge first second → AreObjects Fine maps → AreObjects Fine others → AreObjects Fine made
   made_objects maps others first second made e f g a b =
       subst (AreObjects Fine) (sym g) (merged_objects first second (subst (AreObjects Fine) (sym e) a) (subst (AreObjects Fine) (sym f) b))
+
+  pub made_numbers : (maps others first second made : Maps C) → first ≡ maps → second ≡ others → made ≡ merged_maps o merge first second → HaveNumbers maps → HaveNumbers others → HaveNumbers made
+  made_numbers maps others first second made e f g a b =
+      subst HaveNumbers (sym g) (AllKeys-merged (λ k x y. merged_map o merge x y) (λ n. n < 2 ^ 32) first second (subst HaveNumbers (sym e) a) (subst HaveNumbers (sym f) b))

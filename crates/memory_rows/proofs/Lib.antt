@@ -1,0 +1,3 @@
+pub mod Shapes
+pub mod Gathering
+pub mod Meaning

@@ -1,0 +1,7 @@
+use Rattle.memory_rows.specs.MemoryRows.{row_of}
+use Rattle.memory_rows.proofs.Shapes.{row_of_maps}
+use Rattle.memory_rows.proofs.Meaning.{is_sound}
+use Rattle.memory_rows.proofs.laws.row_describes.Goals as goal
+
+pub returns : goal.returns
+returns c = λ shown ranges m i a h. is_sound shown m (row_of shown ranges m.0) i a (row_of_maps shown ranges m.0 h)
