@@ -1,5 +1,6 @@
 //! Random stores, copies, loads and joins of maps, beside plain lists of bits.
 
+use crate::draw::Random;
 use crate::sample::{get, holds, is_one, put};
 use avalue::{Cellv, Mem};
 use offmap::OffMap;
@@ -7,25 +8,7 @@ use std::alloc::Global;
 
 const BITS: u64 = 256;
 
-/// Numbers that come one after the other by a fixed rule.
-#[derive(Drop)]
-struct Random {
-    state: u64,
-}
-
 impl Random {
-    fn draw(&mut self, bound: u64) -> u64 {
-        self.state = self
-            .state
-            .wrapping_mul(6_364_136_223_846_793_005)
-            .wrapping_add(1_442_695_040_888_963_407);
-        let high = self.state >> 33;
-        if bound == 0 {
-            return high;
-        }
-        high % bound
-    }
-
     /// A size of an access: mostly bytes, words and the like.
     fn size(&mut self) -> u64 {
         match self.draw(6) {

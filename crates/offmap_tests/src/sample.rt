@@ -7,7 +7,7 @@ use offmap::OffMap;
 use std::alloc::Global;
 
 /// The cell of one number.
-pub(crate) fn number(n: u64) -> Cellv {
+pub fn number(n: u64) -> Cellv {
     let n = i128::from(n);
     Cellv {
         value: Some(AVal::number(Ival::single(n))),
@@ -37,7 +37,7 @@ fn agree(a: i128, b: i128, bits: u64) -> bool {
 }
 
 /// Whether one of a cell's numbers has the low bits of this one.
-pub(crate) fn holds(cell: &Cellv, bits: u64, n: u64) -> bool {
+pub fn holds(cell: &Cellv, bits: u64, n: u64) -> bool {
     let Some(value) = &cell.value else {
         return false;
     };
@@ -65,7 +65,7 @@ pub(crate) fn holds(cell: &Cellv, bits: u64, n: u64) -> bool {
 }
 
 /// Whether a cell has one number alone.
-pub(crate) fn is_one(cell: &Cellv) -> bool {
+pub fn is_one(cell: &Cellv) -> bool {
     let Some(value) = &cell.value else {
         return false;
     };
@@ -76,7 +76,7 @@ pub(crate) fn is_one(cell: &Cellv) -> bool {
 }
 
 /// Whether a cell has these two numbers alone, the lower one first, and no flag.
-pub(crate) fn is_pair(cell: &Cellv, low: i128, high: i128) -> bool {
+pub fn is_pair(cell: &Cellv, low: i128, high: i128) -> bool {
     if cell.uninit || cell.dead {
         return false;
     }
@@ -93,13 +93,7 @@ pub(crate) fn is_pair(cell: &Cellv, low: i128, high: i128) -> bool {
 }
 
 /// The map with the number there, or the map itself where that doesn't fit.
-pub(crate) fn put(
-    alloc: Global,
-    map: &OffMap<Cellv>,
-    at: u64,
-    bits: u64,
-    n: u64,
-) -> Mem<OffMap<Cellv>> {
+pub fn put(alloc: Global, map: &OffMap<Cellv>, at: u64, bits: u64, n: u64) -> Mem<OffMap<Cellv>> {
     let all = map.bits();
     if bits == 0 || bits > 64 || bits > all || at > all - bits {
         return map.copy(alloc, 0, all);
@@ -108,7 +102,7 @@ pub(crate) fn put(
 }
 
 /// The cell there, or none where that doesn't fit.
-pub(crate) fn get(alloc: Global, map: &OffMap<Cellv>, at: u64, bits: u64) -> Mem<Option<Cellv>> {
+pub fn get(alloc: Global, map: &OffMap<Cellv>, at: u64, bits: u64) -> Mem<Option<Cellv>> {
     let all = map.bits();
     if bits == 0 || bits > 64 || bits > all || at > all - bits {
         return Ok(None);
