@@ -1,0 +1,5 @@
+mod Belonging
+mod Segments
+mod Landing
+mod Staying
+mod Whereabouts

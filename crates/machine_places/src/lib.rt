@@ -1,0 +1,6 @@
+//! Where a run of a program is: the calls in progress and the statement of the innermost function (`specs/Places.antt`).
+#![tactic(auto)]
+
+pub mod laws;
+
+pub use laws::{has_places, owns_places};
