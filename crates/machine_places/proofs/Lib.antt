@@ -3,3 +3,4 @@ mod Segments
 mod Landing
 mod Staying
 mod Whereabouts
+mod Recursion

@@ -10,31 +10,31 @@ use Rattle.c_machine.specs.Machine.{State, Goes, Stops, Step, Work, sites_of, st
 use Rattle.c_machine.specs.Laws.{IsReached, functions_in}
 use Rattle.c_machine.proofs.Runs.{kept_along}
 use Rattle.machine_places.specs.Places.{Where, IsOfInnermost, IsOwnedByInnermost, HasPlace, HasPlaces, OwnsPlaces}
-use Rattle.machine_places.proofs.Segments.{IsNumber, Known, In, Placed, placed, arrives, Whole}
+use Rattle.machine_places.proofs.Segments.{IsNumber, Known, Placed, placed, arrives, Whole}
 use Rattle.machine_places.proofs.Staying.{stays, begins}
 
 module _ (p : Program) where
   -- a number of the function in progress
-  of_innermost : (f : Function) (functions : List ℕ) (id : ℕ) → Known p f → (outer : List ℕ) → functions ≡ f.base ∷ outer → IsNumber f id → IsOfInnermost p functions id
-  of_innermost f functions id known outer e h =
+  of_innermost : (l : Layout) (f : Function) (functions : List ℕ) (id : ℕ) → Known p l f → (outer : List ℕ) → functions ≡ f.base ∷ outer → IsNumber f id → IsOfInnermost p functions id
+  of_innermost l f functions id known outer e h =
       subst (λ all. IsOfInnermost p all id) (sym e) (subst (λ found. Where (λ function. Contains (numbers_of function) id) found) (sym known) h)
 
-  has_place : (l : Layout) (s : State) → Whole p s.control → (s.control ≡ []) ⊎ HasPlace p l s
+  has_place : (l : Layout) (s : State) → Whole p l s.control s.held → (s.control ≡ []) ⊎ HasPlace p l s
   has_place l s (inl e) = inl e
   has_place l s (inr (f, known, h)) =
-      let place : Placed p f (sites_of s.control) (functions_in s.control) (statement_in s.control) = placed p f s.control h in
+      let place : Placed p l f (sites_of s.control) (functions_in s.control) (statement_in s.control) = placed p l f s.control s.held h in
       inr (record {
         calls = place.calls;
-        statement = of_innermost f (functions_in s.control) (statement_in s.control) known place.innermost.0 place.innermost.1 place.has;
-        arrives = λ id e. of_innermost f (functions_in s.control) id known place.innermost.0 place.innermost.1 (arrives p f s.control id h e);
+        statement = of_innermost l f (functions_in s.control) (statement_in s.control) known place.innermost.0 place.innermost.1 place.has;
+        arrives = λ id e. of_innermost l f (functions_in s.control) id known place.innermost.0 place.innermost.1 (arrives p l f s.control s.held id h e);
         stops = λ kind id sites step. stays p l s (Stops kind id sites) (inr (f, known, h)) step;
       })
 
   pub has_places : HasPlaces p
   has_places l s r =
-      let first : Whole p r.first.control = begins p l (function_at p.functions p.entry) r.first refl r.begins in
-      has_place l s (subst (λ t. Whole p t.control) r.ends
-      (kept_along p (λ t. Whole p t.control) l (λ t u h step. stays p l t (Goes u) h step) r.first r.run first r.goes))
+      let first : Whole p l r.first.control r.first.held = begins p l (function_at p.functions p.entry) r.first refl r.begins in
+      has_place l s (subst (λ t. Whole p l t.control t.held) r.ends
+      (kept_along p (λ t. Whole p l t.control t.held) l (λ t u h step. stays p l t (Goes u) h step) r.first r.run first r.goes))
 
   -- ---- whose statement it is
 

@@ -1,23 +1,26 @@
 -- Where a run is: which calls are in progress, and at which statement of the innermost function it stands.
-use Rattle.std.specs.Prelude.{ℕ, ◌-◌, ◌≡◌, ◌⊎◌, IsTrue, List, [], ◌∷◌, ◌++◌, Option, None, Some, slice_get}
+use Rattle.std.specs.Prelude.{ℕ, ◌-◌, ◌≡◌, ◌⊎◌, IsTrue, List, [], ◌∷◌, ◌++◌, Option, None, Some, is_some, slice_get}
 use Rattle.std.specs.List.{Contains}
 use Rattle.c_base.specs.declared.kind.Kind.{Kind}
 use Rattle.c_memory.specs.Layouts.{Layout}
-use Rattle.c_program.specs.Syntax.{Lvalue, base_at, Function, function_at, Program}
+use Rattle.c_program.specs.Syntax.{Lvalue, Variable, base_at, Function, function_at, Program}
 use Rattle.c_program.specs.StaticCalls.{is_function_of}
 use Rattle.c_program.specs.Numbered.{numbers_of}
-use Rattle.c_machine.specs.Work.{sites_of, statement_in, arrival}
+use Rattle.c_program.specs.Valid.{is_taken}
+use Rattle.c_machine.specs.Work.{sites_of, statement_in, arrival, scopes_of}
 use Rattle.c_machine.specs.Machine.{State, Stops, Step, called_type}
-use Rattle.c_machine.specs.Laws.{IsReached, functions_in}
+use Rattle.c_machine.specs.Laws.{IsReached, functions_in, NeverAgain}
 use Rattle.machine_places.specs.Calls.{CallSite, all_calls}
 
 -- ---- the calls in progress
 
--- a call with this site stands in the function's body, and the function g has the type that it calls (C11 6.5.2.2p9)
+-- A call with this site stands in the function's body, and the function g has the type that it calls (C11 6.5.2.2p9). A call by name enters
+-- the function that it names.
 pub record HasCall (p : Program) (f : Function) (site g : ℕ) : Type 0 where
   pub called : Lvalue
   pub stands : Contains (all_calls f.body) (record { site = site; called = called })
   pub fits : IsTrue (is_function_of (called_type p called) (base_at p.bases g))
+  pub direct : (base : ℕ) → called ≡ Variable base → base ≡ g
 
 abbrev pub Where : {A : Type 0} → (A → Type 0) → Option A → Type 0
 Where P None = ⊥
@@ -66,3 +69,18 @@ HasPlaces p = (l : Layout) (s : State) → IsReached p l s → (s.control ≡ []
 -- a statement of the innermost function is one of no other
 abbrev pub OwnsPlaces : Program → Type 0
 OwnsPlaces p = (s : State) (id : ℕ) → IsOfInnermost p (functions_in s.control) id → IsOwnedByInnermost p (functions_in s.control) id
+
+-- ---- programs whose calls name what they call
+
+abbrev pub CallsByName : Program → Type 0
+CallsByName p =
+    (f : ℕ) (function : Function) → function_at p.functions f ≡ Some function → (c : CallSite) → Contains (all_calls function.body) c →
+    (base : ℕ) × (c.called ≡ Variable base)
+
+-- no run enters a function again while it is in progress
+abbrev pub EntersOnce : Program → Type 0
+EntersOnce p = (l : Layout) (s : State) (r : IsReached p l s) → NeverAgain r.run
+
+-- the bases that live are the objects of the scopes in progress, and the static ones, in all states that a run reaches
+abbrev pub AlwaysLivesInScopes : Program → Type 0
+AlwaysLivesInScopes p = (l : Layout) (s : State) → IsReached p l s → (base : ℕ) → is_some (s.memory base) ≡ is_taken p (scopes_of s.control) base

@@ -2,7 +2,11 @@
 
 ghost use Rattle.c_program.specs.Syntax.{Program};
 ghost use Rattle.c_program.specs.Numbered.{IsNumbered};
-ghost use Rattle.machine_places.specs.Places.{HasPlaces, OwnsPlaces};
+ghost use Rattle.c_program.specs.StaticCalls.{IsAcyclic};
+ghost use Rattle.c_program.specs.Valid.{IsValid};
+ghost use Rattle.machine_places.specs.Places.{HasPlaces, OwnsPlaces, CallsByName, EntersOnce, AlwaysLivesInScopes};
+
+use c_machine::lives_in_scopes;
 
 /// The statement and the call sites that a stop names are those of the innermost function in progress and of the calls that led there.
 pub fn has_places()
@@ -13,3 +17,17 @@ pub fn has_places()
 pub fn owns_places()
     ensures { (p : Program) → IsNumbered p → OwnsPlaces p }
 {}
+
+/// Where each call names what it calls, and no function that the entry reaches calls itself by whatever way, no run enters a function again
+/// while it is in progress.
+pub fn enters_once()
+    ensures { (p : Program) → IsAcyclic p → CallsByName p → EntersOnce p }
+{}
+
+/// So the bases that live are those of the scopes in progress, and the static ones, in all of their states.
+pub fn always_lives_in_scopes()
+    ensures { (p : Program) → IsValid p → IsAcyclic p → CallsByName p → AlwaysLivesInScopes p }
+{
+    lives_in_scopes();
+    enters_once();
+}
