@@ -1,5 +1,5 @@
 -- Jumps stay in the function: they lead to work of it.
-use Rattle.std.proofs.Common.{◌≡◌, ℕ, Bool, true, false, cond, List, [], ◌∷◌, ◌++◌, Option, None, Some, ℤ, refl, sym, subst}
+use Rattle.std.proofs.Common.{ℕ, Bool, true, false, cond, List, [], ◌∷◌, ◌++◌, Option, None, Some, ℤ}
 use Rattle.std.specs.Prelude.{bytes_eq}
 use Rattle.c_program.specs.Syntax.{Stmt, Expression, Return, If, While, Block, Nothing, Empty, ReturnNothing, DoWhile, For, Switch, Case, Label, Goto, Break, Continue, Initialise, Assert, Stmts, Done, Next, Function, Program}
 use Rattle.c_memory.specs.Layouts.{Layout}

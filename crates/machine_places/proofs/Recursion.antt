@@ -3,11 +3,11 @@ use Rattle.std.proofs.Common.{◌≡◌, ◌≢◌, ℕ, zero, suc, ◌<◌, ◌
 use Rattle.std.specs.List.{Contains, AllByRecursion}
 use Rattle.std.proofs.lemmas.List.Elements.{Contains-append_cases}
 use Rattle.c_memory.specs.Layouts.{Layout}
-use Rattle.c_program.specs.Syntax.{Lvalue, Variable, Pointed, Temporary, Member, Element, ElementOf, Expr, Number, Load, Binary, Assign, LoadCells, AssignCells, Address, Unary, Convert, OnPointers, Logic, Conditional, Compound, Step, Comma, Call, Exprs, NoExpr, NextExpr, Numbered, Head, Item, Value, Content, Stmt, Expression, Return, If, While, Block, Nothing, Empty, ReturnNothing, DoWhile, For, Switch, Case, Label, Goto, Break, Continue, Initialise, Assert, Stmts, Done, Next, Function, function_at, Program}
+use Rattle.c_program.specs.Syntax.{Lvalue, Variable, Pointed, Temporary, Member, Element, ElementOf, Expr, Number, Load, Binary, Assign, LoadCells, AssignCells, Address, Unary, Convert, OnPointers, Logic, Conditional, Compound, Step, Comma, Call, Exprs, NoExpr, NextExpr, Numbered, Item, Value, Content, Stmt, Expression, Return, If, While, Block, Nothing, Empty, ReturnNothing, DoWhile, For, Switch, Case, Label, Goto, Break, Continue, Initialise, Assert, Stmts, Done, Next, Function, function_at, Program}
 use Rattle.c_program.specs.Flow.{AreDifferent}
 use Rattle.c_program.specs.StaticCalls.{Enters, Calls, CallsAt as CallsAtPlace, CallsInSome, Where as WhereSome, CallsNumbered, CallsInItems, CallsIn, CallsInStmts, CanCall, IsReachedFrom, Itself, Called, IsAcyclic}
 use Rattle.c_machine.specs.Machine.{State, Goes, IsRun, sites_of, statement_in}
-use Rattle.c_machine.specs.Laws.{functions_in, NeverAgain, IsReached}
+use Rattle.c_machine.specs.Laws.{functions_in, NeverAgain}
 use Rattle.machine_places.specs.Calls.{CallSite, calls_of, calls_at, calls_among, condition_calls, part_calls, item_calls, calls_in, all_calls}
 use Rattle.machine_places.specs.Places.{HasCall, Where, CallsAt, IsCallString, Begun, Entered, CallsByName, EntersOnce}
 use Rattle.machine_places.proofs.Segments.{Placed, placed, Whole}

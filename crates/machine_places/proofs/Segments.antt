@@ -10,7 +10,7 @@ use Rattle.c_machine.specs.Machine.{Held, Usable, Absent, Work, Do, Evaluate, Lo
 use Rattle.c_machine.specs.Parts.{split_held}
 use Rattle.c_machine.specs.Laws.{functions_in}
 use Rattle.machine_places.specs.Calls.{CallSite, all_calls}
-use Rattle.machine_places.specs.Places.{HasCall, Where, IsCallString, Begun, Entered, IsOfInnermost}
+use Rattle.machine_places.specs.Places.{HasCall, Where, IsCallString, Begun, Entered}
 use Rattle.machine_places.proofs.Belonging.{Calls as CallsOf, CallsAt as CallsOfPlace, Of as OfAny, AllOf as AllOfAny, OfTest as OfAnyTest, OfHead as OfAnyHead}
 
 -- numbers and calls of a function

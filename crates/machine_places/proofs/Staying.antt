@@ -1,6 +1,5 @@
 -- Each step stays in the segments of work and holds what they use, or stops at their place; and runs begin so.
-use Rattle.std.proofs.Common.{◌≡◌, ℕ, zero, suc, ◌==◌, Bool, true, false, cond, ◌&&◌, ◌||◌, ◌+◌, ◌⊎◌, inl, inr, IsTrue, List, [], ◌∷◌, ◌++◌, Option, None, Some, Result, Ok, Err, refl, sym, ◌∙◌, subst, arith}
-use Rattle.std.specs.List.{Contains}
+use Rattle.std.proofs.Common.{◌≡◌, ℕ, zero, suc, ◌==◌, Bool, true, false, cond, ◌&&◌, ◌||◌, ◌+◌, inl, inr, IsTrue, List, [], ◌∷◌, ◌++◌, Option, None, Some, Result, Ok, Err, refl, sym, ◌∙◌, subst, arith}
 use Rattle.std.specs.Prelude.{find}
 use Rattle.std.specs.FinSet.{empty, contains, contains-empty, contains-insert, len}
 use Rattle.std.specs.Ordering.{nat_cmp}
@@ -31,7 +30,7 @@ use Rattle.c_machine.specs.Jumps.{Jump, jump_to, jump_behind, jump_on, Entry, se
 use Rattle.c_machine.specs.Unfolding.{is_volatile, fetched_by, is_temporary, source_work, arguments_work, count, value_work, items_work, operator_work, compound_by, stepped_by}
 use Rattle.machine_places.specs.Places.{HasCall}
 use Rattle.machine_places.proofs.Belonging.{all_of, OfItems as OfAnyItems, OfPart as OfAnyPart, OfCondition as OfAnyCondition, CallsAmong}
-use Rattle.machine_places.proofs.Segments.{IsNumber, IsCall, OfExpr, OfPlace, Of, AllOf, Popped, Twice, Called, IsFound, IsEntering, Known as KnownAny, In as InAny, At as AtAny, Framed as FramedAny, Whole as WholeAny, at_in, queued_at, exits, behind_exits}
+use Rattle.machine_places.proofs.Segments.{IsNumber, IsCall, OfExpr, OfPlace, AllOf, Popped, Twice, Called, IsFound, IsEntering, Known as KnownAny, In as InAny, At as AtAny, Framed as FramedAny, Whole as WholeAny, at_in, queued_at, exits, behind_exits}
 use Rattle.machine_places.proofs.Landing.{OnJump, OnEntry, goto_lands, break_lands, continue_lands, switch_lands}
 
 module _ (p : Program) (l : Layout) where

@@ -1,13 +1,13 @@
 -- Each state that a run reaches has its place.
-use Rattle.std.proofs.Common.{◌≡◌, ℕ, zero, suc, ◌-◌, ◌==◌, ◌⊎◌, inl, inr, Bool, true, false, cond, List, [], ◌∷◌, Option, None, Some, refl, sym, subst, arith}
+use Rattle.std.proofs.Common.{◌≡◌, ℕ, zero, suc, ◌-◌, ◌==◌, ◌⊎◌, inl, inr, Bool, true, false, cond, List, [], ◌∷◌, Some, refl, sym, subst, arith}
 use Rattle.std.specs.Prelude.{slice_get}
 use Rattle.std.specs.List.{Contains, AllByRecursion}
 use Rattle.c_base.proofs.Tests.{test_same}
 use Rattle.c_memory.specs.Layouts.{Layout}
 use Rattle.c_program.specs.Syntax.{Function, function_at, Program}
 use Rattle.c_program.specs.Numbered.{numbers_of, IsNumberedFunction, IsNumbered}
-use Rattle.c_machine.specs.Machine.{State, Goes, Stops, Step, Work, sites_of, statement_in}
-use Rattle.c_machine.specs.Laws.{IsReached, functions_in}
+use Rattle.c_machine.specs.Machine.{State, Goes, Stops, sites_of, statement_in}
+use Rattle.c_machine.specs.Laws.{functions_in}
 use Rattle.c_machine.proofs.Runs.{kept_along}
 use Rattle.machine_places.specs.Places.{Where, IsOfInnermost, IsOwnedByInnermost, HasPlace, HasPlaces, OwnsPlaces}
 use Rattle.machine_places.proofs.Segments.{IsNumber, Known, Placed, placed, arrives, Whole}
