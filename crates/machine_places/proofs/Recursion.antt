@@ -9,7 +9,7 @@ use Rattle.c_program.specs.StaticCalls.{Enters, Calls, CallsAt as CallsAtPlace, 
 use Rattle.c_machine.specs.Machine.{State, Goes, IsRun, sites_of, statement_in}
 use Rattle.c_machine.specs.Laws.{functions_in, NeverAgain}
 use Rattle.machine_places.specs.Calls.{CallSite, calls_of, calls_at, calls_among, condition_calls, part_calls, item_calls, calls_in, all_calls}
-use Rattle.machine_places.specs.Places.{HasCall, Where, CallsAt, IsCallString, Begun, Entered, CallsByName, EntersOnce}
+use Rattle.machine_places.specs.Places.{HasCall, Where, CallsAt, IsCallString, Begun, Entered, IsRanked, CallsByName, EntersOnce}
 use Rattle.machine_places.proofs.Segments.{Placed, placed, Whole}
 use Rattle.machine_places.proofs.Staying.{stays, begins}
 
@@ -149,36 +149,50 @@ module _ (p : Program) (acyclic : IsAcyclic p) (by_name : CallsByName p) where
           subst (λ q. Contains (all_calls function.body) (record { site = site; called = q })) callee h.stands in
           rw e (in_stmts p g site function.body stands)
 
+  abbrev Reached : List ℕ → Type 0
+  Reached [] = ⊥
+  Reached (f ∷ outer) = IsReachedFrom p p.entry f
+
+  reached : (sites functions : List ℕ) → IsCallString p sites functions → Reached functions
+  reached sites functions Begun = Itself
+  reached sites functions (Entered before outer f site g calls call) = Called f g (reached before (f ∷ outer) calls) (can_call f site g call)
+
+  pub is_ranked : IsRanked p
+  is_ranked = record {
+    rank = acyclic.rank;
+    falls = λ sites outer f site g calls call. acyclic.falls f g (reached sites (f ∷ outer) calls) (can_call f site g call);
+  }
+
+module _ (p : Program) (ranked : IsRanked p) where
   -- ---- ranks fall along the functions in progress
 
   abbrev Falls : List ℕ → Type 0
   Falls [] = ⊥
-  Falls (f ∷ outer) = IsReachedFrom p p.entry f × AllByRecursion (λ g. acyclic.rank f < acyclic.rank g) outer × AreDifferent (f ∷ outer)
+  Falls (f ∷ outer) = AllByRecursion (λ g. ranked.rank f < ranked.rank g) outer × AreDifferent (f ∷ outer)
 
-  all_above : (f g : ℕ) (outer : List ℕ) → acyclic.rank g < acyclic.rank f → AllByRecursion (λ h. acyclic.rank f < acyclic.rank h) outer →
-      AllByRecursion (λ h. acyclic.rank g < acyclic.rank h) outer
+  all_above : (f g : ℕ) (outer : List ℕ) → ranked.rank g < ranked.rank f → AllByRecursion (λ h. ranked.rank f < ranked.rank h) outer →
+      AllByRecursion (λ h. ranked.rank g < ranked.rank h) outer
   all_above f g [] less h = tt
   all_above f g (b ∷ outer) less h = (let k = h.0 in omega arith, all_above f g outer less h.1)
 
-  all_others : (g : ℕ) (outer : List ℕ) → AllByRecursion (λ h. acyclic.rank g < acyclic.rank h) outer → AllByRecursion (λ h. g ≢ h) outer
+  all_others : (g : ℕ) (outer : List ℕ) → AllByRecursion (λ h. ranked.rank g < ranked.rank h) outer → AllByRecursion (λ h. g ≢ h) outer
   all_others g [] h = tt
-  all_others g (b ∷ outer) h = (λ e. let less : acyclic.rank g < acyclic.rank g = subst (λ x. acyclic.rank g < acyclic.rank x) (sym e) h.0 in let no : ⊥ = omega arith in no, all_others g outer h.1)
+  all_others g (b ∷ outer) h = (λ e. let less : ranked.rank g < ranked.rank g = subst (λ x. ranked.rank g < ranked.rank x) (sym e) h.0 in let no : ⊥ = omega arith in no, all_others g outer h.1)
 
   falls : (sites functions : List ℕ) → IsCallString p sites functions → Falls functions
-  falls sites functions Begun = (Itself, tt, (tt, tt))
+  falls sites functions Begun = (tt, (tt, tt))
   falls sites functions (Entered before outer f site g calls call) =
       let outside = falls before (f ∷ outer) calls in
-      let can : CanCall p f g = can_call f site g call in
-      let less : acyclic.rank g < acyclic.rank f = acyclic.falls f g outside.0 can in
-      let above : AllByRecursion (λ h. acyclic.rank g < acyclic.rank h) (f ∷ outer) = (less, all_above f g outer less outside.1) in
-      (Called f g outside.0 can, above, (all_others g (f ∷ outer) above, outside.2))
+      let less : ranked.rank g < ranked.rank f = ranked.falls before outer f site g calls call in
+      let above : AllByRecursion (λ h. ranked.rank g < ranked.rank h) (f ∷ outer) = (less, all_above f g outer less outside.0) in
+      (above, (all_others g (f ∷ outer) above, outside.1))
 
   different : (l : Layout) (s : State) → Whole p l s.control s.held → AreDifferent (functions_in s.control)
   different l s (inl e) = rw e tt
   different l s (inr (f, known, h)) =
       let place : Placed p l f (sites_of s.control) (functions_in s.control) (statement_in s.control) = placed p l f s.control s.held h in
       let all : Falls (f.base ∷ place.innermost.0) = subst Falls place.innermost.1 (falls (sites_of s.control) (functions_in s.control) place.calls) in
-      subst AreDifferent (sym place.innermost.1) all.2
+      subst AreDifferent (sym place.innermost.1) all.1
 
   along : (l : Layout) (s : State) (ts : List State) → Whole p l s.control s.held → IsRun p l s ts → NeverAgain ts
   along l s [] h run = tt

@@ -1,5 +1,5 @@
 -- Where a run is: which calls are in progress, and at which statement of the innermost function it stands.
-use Rattle.std.specs.Prelude.{ℕ, ◌-◌, ◌≡◌, ◌⊎◌, IsTrue, List, [], ◌∷◌, ◌++◌, Option, None, Some, is_some, slice_get}
+use Rattle.std.specs.Prelude.{ℕ, ◌-◌, ◌<◌, ◌≡◌, ◌⊎◌, IsTrue, List, [], ◌∷◌, ◌++◌, Option, None, Some, is_some, slice_get}
 use Rattle.std.specs.List.{Contains}
 use Rattle.c_base.specs.declared.kind.Kind.{Kind}
 use Rattle.c_memory.specs.Layouts.{Layout}
@@ -70,8 +70,15 @@ HasPlaces p = (l : Layout) (s : State) → IsReached p l s → (s.control ≡ []
 abbrev pub OwnsPlaces : Program → Type 0
 OwnsPlaces p = (s : State) (id : ℕ) → IsOfInnermost p (functions_in s.control) id → IsOwnedByInnermost p (functions_in s.control) id
 
--- ---- programs whose calls name what they call
+-- ---- programs whose calls lead back to no function in progress
 
+-- There is a rank that falls along each call that a run may make: one in the body of the innermost of the functions in progress, to a
+-- function that it names or, where it calls by a pointer, to any of the type.
+pub record IsRanked (p : Program) : Type 0 where
+  pub rank : ℕ → ℕ
+  pub falls : (sites outer : List ℕ) (f site g : ℕ) → IsCallString p sites (f ∷ outer) → CallsAt p f site g → rank g < rank f
+
+-- each call names what it calls
 abbrev pub CallsByName : Program → Type 0
 CallsByName p =
     (f : ℕ) (function : Function) → function_at p.functions f ≡ Some function → (c : CallSite) → Contains (all_calls function.body) c →

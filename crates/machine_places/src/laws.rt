@@ -4,7 +4,7 @@ ghost use Rattle.c_program.specs.Syntax.{Program};
 ghost use Rattle.c_program.specs.Numbered.{IsNumbered};
 ghost use Rattle.c_program.specs.StaticCalls.{IsAcyclic};
 ghost use Rattle.c_program.specs.Valid.{IsValid};
-ghost use Rattle.machine_places.specs.Places.{HasPlaces, OwnsPlaces, CallsByName, EntersOnce, AlwaysLivesInScopes};
+ghost use Rattle.machine_places.specs.Places.{HasPlaces, OwnsPlaces, IsRanked, CallsByName, EntersOnce, AlwaysLivesInScopes};
 
 use c_machine::lives_in_scopes;
 
@@ -18,15 +18,19 @@ pub fn owns_places()
     ensures { (p : Program) → IsNumbered p → OwnsPlaces p }
 {}
 
-/// Where each call names what it calls, and no function that the entry reaches calls itself by whatever way, no run enters a function again
-/// while it is in progress.
+/// Where a rank falls along each call, no run enters a function again while it is in progress.
 pub fn enters_once()
-    ensures { (p : Program) → IsAcyclic p → CallsByName p → EntersOnce p }
+    ensures { (p : Program) → IsRanked p → EntersOnce p }
 {}
 
-/// So the bases that live are those of the scopes in progress, and the static ones, in all of their states.
+/// There is such a rank where each call names what it calls, and no function that the entry reaches calls itself by whatever way.
+pub fn is_ranked()
+    ensures { (p : Program) → IsAcyclic p → CallsByName p → IsRanked p }
+{}
+
+/// So the bases that live are those of the scopes in progress, and the static ones, in all states that runs of such a valid program reach.
 pub fn always_lives_in_scopes()
-    ensures { (p : Program) → IsValid p → IsAcyclic p → CallsByName p → AlwaysLivesInScopes p }
+    ensures { (p : Program) → IsValid p → IsRanked p → AlwaysLivesInScopes p }
 {
     lives_in_scopes();
     enters_once();

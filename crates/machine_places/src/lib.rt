@@ -3,4 +3,4 @@
 
 pub mod laws;
 
-pub use laws::{always_lives_in_scopes, enters_once, has_places, owns_places};
+pub use laws::{always_lives_in_scopes, enters_once, has_places, is_ranked, owns_places};
