@@ -4,3 +4,4 @@ mod Landing
 mod Staying
 mod Whereabouts
 mod Recursion
+mod Telling

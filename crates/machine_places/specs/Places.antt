@@ -84,6 +84,18 @@ CallsByName p =
     (f : ℕ) (function : Function) → function_at p.functions f ≡ Some function → (c : CallSite) → Contains (all_calls function.body) c →
     (base : ℕ) × (c.called ≡ Variable base)
 
+-- no two calls in a function's body have the same site
+abbrev pub HasOwnSites : Program → Type 0
+HasOwnSites p =
+    (f : ℕ) (function : Function) → function_at p.functions f ≡ Some function → (c d : CallSite) → Contains (all_calls function.body) c →
+    Contains (all_calls function.body) d → c.site ≡ d.site → c ≡ d
+
+-- the call sites of a state with work left tell which functions are in progress, in all runs and layouts
+abbrev pub SitesTellFunctions : Program → Type 0
+SitesTellFunctions p =
+    (l m : Layout) (s t : State) → IsReached p l s → IsReached p m t → sites_of s.control ≡ sites_of t.control →
+    (s.control ≡ []) ⊎ ((t.control ≡ []) ⊎ (functions_in s.control ≡ functions_in t.control))
+
 -- no run enters a function again while it is in progress
 abbrev pub EntersOnce : Program → Type 0
 EntersOnce p = (l : Layout) (s : State) (r : IsReached p l s) → NeverAgain r.run

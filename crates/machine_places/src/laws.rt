@@ -4,7 +4,7 @@ ghost use Rattle.c_program.specs.Syntax.{Program};
 ghost use Rattle.c_program.specs.Numbered.{IsNumbered};
 ghost use Rattle.c_program.specs.StaticCalls.{IsAcyclic};
 ghost use Rattle.c_program.specs.Valid.{IsValid};
-ghost use Rattle.machine_places.specs.Places.{HasPlaces, OwnsPlaces, IsRanked, CallsByName, EntersOnce, AlwaysLivesInScopes};
+ghost use Rattle.machine_places.specs.Places.{HasPlaces, OwnsPlaces, IsRanked, CallsByName, HasOwnSites, SitesTellFunctions, EntersOnce, AlwaysLivesInScopes};
 
 use c_machine::lives_in_scopes;
 
@@ -16,6 +16,11 @@ pub fn has_places()
 /// The statement is one of no other function, where the program's statements are numbered as they stand.
 pub fn owns_places()
     ensures { (p : Program) → IsNumbered p → OwnsPlaces p }
+{}
+
+/// Call sites tell which functions are in progress, where each call names what it calls and no two of a function have the same site.
+pub fn sites_tell_functions()
+    ensures { (p : Program) → HasOwnSites p → CallsByName p → SitesTellFunctions p }
 {}
 
 /// Where a rank falls along each call, no run enters a function again while it is in progress.

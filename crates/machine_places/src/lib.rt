@@ -3,4 +3,6 @@
 
 pub mod laws;
 
-pub use laws::{always_lives_in_scopes, enters_once, has_places, is_ranked, owns_places};
+pub use laws::{
+    always_lives_in_scopes, enters_once, has_places, is_ranked, owns_places, sites_tell_functions,
+};
