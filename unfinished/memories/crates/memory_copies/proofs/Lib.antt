@@ -1,0 +1,4 @@
+pub mod Putting
+pub mod Sourcing
+pub mod Written
+pub mod Meaning
