@@ -1,4 +1,0 @@
-pub mod Putting
-pub mod Sourcing
-pub mod Written
-pub mod Meaning

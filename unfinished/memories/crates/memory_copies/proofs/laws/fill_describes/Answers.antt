@@ -1,7 +1,0 @@
-use Rattle.memory_copies.proofs.Meaning.{fill_describes}
-use Rattle.memory_copies.proofs.laws.fill_describes.Goals as goal
-
-pub returns : goal.returns
-returns g c = λ world bytes x m ps p z objects held cs i f d l h a.
-    fill_describes g.C.Cells.ops g.C.Cells.fine g.M.Concrete.tint g.M.Concrete.bare g.M.Concrete.sure (g.M.Concrete.allows world) (g.M.Concrete.gives world) g.met.C.Cells.fine_laws g.met.C.Cells.order_laws g.met.C.Cells.join_laws
-    (g.met.M.Concrete.meaning_laws world) g.met.C.Cells.part_laws (g.met.M.Concrete.access_laws world) m ps bytes x p z objects held cs i f d l h a
